@@ -1,0 +1,40 @@
+-- `addressing::is_present` meets its contract.
+-- Assumes nothing.
+use borrow.Author.Needs.{needs}
+use Rattle.addressing.proofs.is_present.Statement.{statement}
+use Rattle.addressing.proofs.is_present.Tie as tie
+use Rattle.addressing.specs.Addressing.{present}
+use Rattle.util.proofs.Tests.{tests}
+
+enum-told : tie.Need-enum-told
+enum-told c = search needs
+
+enum-told-2 : tie.Need-enum-told-2
+enum-told-2 c = search needs
+
+enum-told-3 : tie.Need-enum-told-3
+enum-told-3 c = search needs
+
+enum-told-4 : tie.Need-enum-told-4
+enum-told-4 c = search needs
+
+returns : tie.Need-returns
+unfolding present
+returns c = search tests
+
+returns-2 : tie.Need-returns-2
+unfolding present
+returns-2 c = search tests
+
+returns-3 : tie.Need-returns-3
+unfolding present
+returns-3 c = search tests
+
+returns-4 : tie.Need-returns-4
+unfolding present
+returns-4 c = search tests
+
+pub is-present-spec : {M : Type 1} → statement M
+is-present-spec =
+    tie.close
+    (tie.spec enum-told enum-told-2 enum-told-3 enum-told-4 returns returns-2 returns-3 returns-4)

@@ -1,0 +1,33 @@
+-- `driver::step` meets its contract: the outcome is the move's, and the pool has the number that it writes.
+-- Assumes nothing.
+use borrow.Author.Needs.{needs}
+use Rattle.driver.specs.Step.{stepOf, stepPool}
+use Rattle.driver.proofs.step.Statement.{statement}
+use Rattle.driver.proofs.step.Tie as tie
+
+checked-move-requires : tie.Need-checked-move-requires
+checked-move-requires c κs = search needs
+
+write-number-requires : tie.Need-write-number-requires
+write-number-requires c κs = search needs
+
+outcome-of-requires : tie.Need-outcome-of-requires
+outcome-of-requires c κs = search needs
+
+same-length : tie.Need-same-length
+same-length c = search needs
+
+returns : tie.Need-returns
+unfolding stepOf stepPool
+returns c =
+    let wrote = c .before .before .before in
+    let made = wrote .before .before in
+    record {
+      returns = rw (made .checked-move .ensures) at (c .outcome-of .ensures);
+      writes = rw (made .checked-move .ensures) at (wrote .write-number .ensures);
+    }
+
+pub step-spec : {M : Type 1} → statement M
+step-spec =
+    tie.close
+    (tie.spec checked-move-requires write-number-requires outcome-of-requires same-length returns)

@@ -1,0 +1,4 @@
+pub mod Step
+pub mod Refusals
+pub mod Reasons
+pub mod Book

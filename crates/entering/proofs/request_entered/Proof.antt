@@ -1,0 +1,28 @@
+-- `entering::request_entered` meets its contract: the refusal and the answers of what is left are the definition's.
+-- Assumes nothing.
+use borrow.Author.Needs.{needs}
+use Rattle.entering.proofs.request_entered.Statement.{statement}
+use Rattle.entering.proofs.request_entered.Tie as tie
+use Rattle.entering.specs.Entering.{requestEntered}
+
+leave-task-requires : tie.Need-leave-task-requires
+leave-task-requires c κs = search needs
+
+arrive-requires : tie.Need-arrive-requires
+arrive-requires c κs = search needs
+
+guarded-requires : tie.Need-guarded-requires
+guarded-requires c κs = search needs
+
+returns : tie.Need-returns
+unfolding requestEntered
+returns c = rw (c .before .arrive .ensures, c .before .before .leave-task .ensures) at (c .guarded .ensures)
+
+pub request-entered-spec : {M : Type 1} → statement M
+request-entered-spec =
+    tie.close
+    (tie.spec
+    leave-task-requires
+    arrive-requires
+    guarded-requires
+    returns)

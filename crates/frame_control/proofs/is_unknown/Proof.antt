@@ -1,0 +1,40 @@
+-- `frame_control::is_unknown` meets its contract.
+-- Assumes nothing.
+use borrow.Author.Needs.{needs}
+use Rattle.frame_control.proofs.is_unknown.Statement.{statement}
+use Rattle.frame_control.proofs.is_unknown.Tie as tie
+use Rattle.frame_control.specs.FrameControl.{reserved}
+use Rattle.util.proofs.Tests.{tests}
+
+enum-told : tie.Need-enum-told
+enum-told c = search needs
+
+enum-told-2 : tie.Need-enum-told-2
+enum-told-2 c = search needs
+
+enum-told-3 : tie.Need-enum-told-3
+enum-told-3 c = search needs
+
+enum-told-4 : tie.Need-enum-told-4
+enum-told-4 c = search needs
+
+returns : tie.Need-returns
+unfolding reserved
+returns c = search tests
+
+returns-2 : tie.Need-returns-2
+unfolding reserved
+returns-2 c = search tests
+
+returns-3 : tie.Need-returns-3
+unfolding reserved
+returns-3 c = search tests
+
+returns-4 : tie.Need-returns-4
+unfolding reserved
+returns-4 c = search tests
+
+pub is-unknown-spec : {M : Type 1} → statement M
+is-unknown-spec =
+    tie.close
+    (tie.spec enum-told enum-told-2 enum-told-3 enum-told-4 returns returns-2 returns-3 returns-4)

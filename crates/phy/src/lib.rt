@@ -1,0 +1,34 @@
+// The spacings between frames (phy.rs), and the time an acknowledgement may start at the latest (driver.rs, timer.rs).
+ghost use mathlib.Core.Path.{_≡_};
+ghost use Rattle.phy.specs.Spacing.{ifsOf, LatestAckStarts};
+
+// The inter-frame spacings: before an acknowledgement, after a short frame, after a long one.
+pub enum Ifs {
+    Aifs,
+    Sifs,
+    Lifs,
+}
+
+// The latest start of an acknowledgement, or that it does not fit 64 bits (refusal 11).
+pub enum LatestAckStart {
+    At(u64),
+    Exceeds,
+}
+
+// The spacing after a frame of a length with checksum.
+pub fn from_mpdu_length(length: u16) -> Ifs
+    ensures { λ r. ⌜ r ≡ ifsOf length ⌝ }
+{
+    if length <= 18 { Ifs::Sifs } else { Ifs::Lifs }
+}
+
+// The latest start of an acknowledgement whose wait was entered at a measured time.
+pub fn latest_ack_start(entry: u64) -> LatestAckStart
+    ensures { λ r. ⌜ LatestAckStarts entry r ⌝ }
+{
+    if entry <= 0xFFFF_FFFF_FFFF_FFFF - 10_000 {
+        LatestAckStart::At(entry + 10_000)
+    } else {
+        LatestAckStart::Exceeds
+    }
+}

@@ -1,0 +1,23 @@
+-- `radio_frame::lengths_unfit` meets its contract: its flags are the definition's.
+-- Assumes nothing.
+use borrow.Author.Needs.{needs}
+use Rattle.radio_frame.proofs.lengths_unfit.Statement.{statement}
+use Rattle.radio_frame.proofs.lengths_unfit.Tie as tie
+use Rattle.radio_frame.specs.Settings.{lengthsUnfit}
+
+either-requires : tie.Need-either-requires
+either-requires c κs = search needs
+
+either-requires-2 : tie.Need-either-requires-2
+either-requires-2 c κs = search needs
+
+either-requires-3 : tie.Need-either-requires-3
+either-requires-3 c κs = search needs
+
+returns : tie.Need-returns
+unfolding lengthsUnfit
+returns c = cc
+
+pub lengths-unfit-spec : {M : Type 1} → statement M
+lengths-unfit-spec =
+    tie.close (tie.spec either-requires either-requires-2 either-requires-3 returns)

@@ -1,0 +1,2 @@
+# Every Rattle file is in the layout of rt fmt.
+exec rt fmt --check

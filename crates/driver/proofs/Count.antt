@@ -1,6 +1,6 @@
 -- How often a number stands in a list, after one is put in front and after one is struck out.
 -- Assumes nothing.
-use Prim.Native.Nat.{ℕ, suc, _+_, _<_, _≤_}
+use Prim.Native.Nat.{ℕ, suc, _+_, _≤_}
 use mathlib.Core.Path.{_≡_, refl, sym, _∙_, ap}
 use mathlib.Core.Bool.{Bool, true, false, cond}
 use mathlib.Core.List.{List, [], _∷_}
@@ -8,7 +8,6 @@ use lib.Dec.{eqb, ltb}
 use lib.ListN.{length}
 use native.Mathlib.Omega.{arith}
 use borrow.Author.Tests.{eq-eqb, eqb-true, ltb-false, lt-ltb}
-use mathlib.Core.Bool.{_||_}
 use Rattle.driver.specs.Book.{one, count, strikeNumber, hasNumber}
 
 pub one-self : (x : ℕ) → one x x ≡ 1

@@ -1,56 +1,24 @@
 -- The whole list: after every list of calls on a state that an accepted start returned, the book is sound.
 -- Assumes nothing.
-use Prim.Native.Nat.{ℕ, _+_, _<_, _≤_}
-use mathlib.Core.Path.{_≡_, refl, sym, _∙_, ap, subst}
-use mathlib.Core.Bool.{Bool, true, false, cond, _||_}
-use mathlib.Core.List.{List, [], _∷_, _++_}
-use lib.Dec.{eqb, ltb, leb}
-use lib.ListN.{length, take, drop}
+use Prim.Native.Nat.{ℕ}
+use mathlib.Core.Path.{_≡_, refl, sym}
+use mathlib.Core.Bool.{Bool, true, false}
+use mathlib.Core.List.{List, [], _∷_}
+use lib.Dec.{eqb}
+use lib.ListN.{length}
 use native.Mathlib.Omega.{arith}
 use borrow.Author.Tests.{eqb-true, eqb-false, ne-eqb}
 use Rattle.radio_frame.specs.declared.Settings.{Settings}
-use Rattle.radio_frame.specs.declared.AckSeqNum.{AckSeqNum}
 use Rattle.radio_frame.specs.Settings.{poolUnfit, lengthsUnfit, ownBuffersUnfit, settingsRefusal}
-use Rattle.radio_frame.specs.RadioFrame.{frameStart}
-use Rattle.ack.specs.Ack.{acknowledges}
-use Rattle.phy.specs.declared.Ifs.{Ifs}
-use Rattle.phy.specs.declared.LatestAckStart.{LatestAckStart}
-use Rattle.phy.specs.Spacing.{ifsOf, latestAckStartOf}
-use Rattle.header.specs.declared.PreliminaryFrameInfo.{PreliminaryFrameInfo}
-use Rattle.header.specs.Header.{infoOf}
-use Rattle.filter.specs.Filter.{forUs}
-use Rattle.tasks.specs.declared.Answer.{Answer}
-use Rattle.tasks.specs.declared.Answers.{Answers}
 use Rattle.tasks.specs.declared.Asked.{Asked}
-use Rattle.tasks.specs.declared.AwaitedAck.{AwaitedAck}
 use Rattle.tasks.specs.declared.Call.{Call}
-use Rattle.tasks.specs.declared.Cause.{Cause}
-use Rattle.tasks.specs.declared.Left.{Left}
-use Rattle.tasks.specs.declared.Next.{Next}
-use Rattle.tasks.specs.declared.Request.{Request}
-use Rattle.tasks.specs.declared.Response.{Response}
-use Rattle.tasks.specs.declared.RxResult.{RxResult}
-use Rattle.tasks.specs.declared.RxTask.{RxTask}
 use Rattle.tasks.specs.declared.State.{State}
-use Rattle.tasks.specs.declared.Stop.{Stop}
-use Rattle.tasks.specs.declared.StopResult.{StopResult}
-use Rattle.tasks.specs.declared.TaskResult.{TaskResult}
-use Rattle.tasks.specs.declared.Transition.{Transition}
-use Rattle.tasks.specs.declared.TxTask.{TxTask}
 use Rattle.tasks.specs.declared.Wait.{Wait}
-use Rattle.tasks.specs.Requests.{tokenHeld, bufferHeld, lengthUnfit, allowedOf, notAllowed, requestRefusal}
-use Rattle.tasks.specs.Results.{receivedRefusal, leaveOff, leaveReceiving, leaveSending, leaveSendingAck, ackResponse, ackReceived, leaveReceivingAck, leaveOf}
 use Rattle.moves.specs.declared.Move.{Move}
-use Rattle.moves.specs.Move.{refusedOf, guardedOf}
-use Rattle.asking.specs.Asking.{nackAnswer, departureOf, nextOf, requestOf, noneOf, askingOf}
-use Rattle.entering.specs.Entering.{sendingMove, arrivalOf, requestEntered, withSpare, rearmEntered, ackTurnEntered, ackWaitStarted, ackWaitEntered, enteredOf, thenError, requestFellBack, fellBackOf, offRolledBack, requestRolledBack, rolledBackOf, enteringOf}
-use Rattle.listening.specs.Listening.{listeningOf, frameStopped, outboundStopped, ackFailed, ackStopped, stoppedOf, stoppingOf}
-use Rattle.reading.specs.Reading.{requested, rearmMove, receiveMove, headerMove, headerOf, readingOf}
-use Rattle.driver.specs.declared.Outcome.{Outcome}
-use Rattle.driver.specs.Step.{waitMove, moveOf, stepOf, startOf}
-use Rattle.driver.specs.Book.{Entry, Book, Turn, Moment, answersTransmit, aged, enter, takeAnswers, bookStep, startBook, turn, after, one, count, Sound, AlwaysSound}
+use Rattle.moves.specs.Move.{guardedOf}
+use Rattle.driver.specs.Step.{moveOf, stepOf, startOf}
+use Rattle.driver.specs.Book.{Book, Turn, Moment, bookStep, startBook, turn, after, AlwaysSound}
 use Rattle.driver.proofs.Count.{one-le, still-once}
-use Rattle.driver.proofs.Owed.{Owed, txOwed, rxOwed, leftOwed, nextOwed, askedOwed, waitOwed, buffers, own, later, raised, LooserOne, Looser, looser-refl, raised-append, Holds}
 use Rattle.driver.proofs.Kept.{Kept, After, stateAt, moved, stays, requests, sound}
 use Rattle.driver.proofs.Table.{Legal, refuse, stay, swap, enters, passed, neither, step-legal}
 

@@ -1,21 +1,19 @@
 -- What an accepted call does to the book, and what the invariant says of it.
 -- Assumes nothing.
 use Prim.Native.Nat.{ℕ, suc, _+_, _<_, _≤_}
-use mathlib.Core.Path.{_≡_, refl, sym, _∙_, ap, subst}
-use mathlib.Core.Bool.{Bool, true, false, cond, not, _&&_, _||_, or-assoc, or-false}
+use mathlib.Core.Path.{_≡_, refl, sym, _∙_, ap}
+use mathlib.Core.Bool.{Bool, true, false, cond, _||_, or-assoc, or-false}
 use mathlib.Core.List.{List, [], _∷_, _++_}
 use lib.Dec.{eqb, ltb}
-use lib.ListN.{length, take, drop}
+use lib.ListN.{length}
 use native.Mathlib.Omega.{arith}
 use borrow.Author.Tests.{eqb-true}
 use Rattle.radio_frame.specs.declared.Settings.{Settings}
 use Rattle.radio_frame.specs.declared.AckSeqNum.{AckSeqNum}
 use Rattle.radio_frame.specs.RadioFrame.{frameStart}
-use Rattle.tasks.specs.declared.Action.{Action}
 use Rattle.tasks.specs.declared.Answer.{Answer}
 use Rattle.tasks.specs.declared.Answers.{Answers}
 use Rattle.tasks.specs.declared.Asked.{Asked}
-use Rattle.tasks.specs.declared.AwaitedAck.{AwaitedAck}
 use Rattle.tasks.specs.declared.Call.{Call}
 use Rattle.tasks.specs.declared.Left.{Left}
 use Rattle.tasks.specs.declared.Next.{Next}
@@ -30,9 +28,9 @@ use Rattle.tasks.specs.Requests.{leftSlot, nextSlot, askedSlot, stopSlot, trans
 use Rattle.moves.specs.declared.Move.{Move}
 use Rattle.moves.specs.Move.{refusedOf, guardedOf}
 use Rattle.asking.specs.Asking.{nextOf}
-use Rattle.driver.specs.Book.{Entry, Book, Moment, isNumber, entryOf, older, aged, enter, answersTransmit, hasToken, hasNumber, takeAnswers, bookStep, one, count, InTime, Sound}
+use Rattle.driver.specs.Book.{Entry, Book, entryOf, older, aged, enter, answersTransmit, hasToken, hasNumber, takeAnswers, bookStep, count, callsAllowed, InTime, Sound}
 use Rattle.driver.proofs.Count.{has-count, none-there, still-once}
-use Rattle.driver.proofs.Owed.{Owed, leftOwed, nextOwed, askedOwed, stopOwed, transitionOwed, waitOwed, numbers, token, buffer, buffers, own, FitsOne, Fits, later, raised, older-fits, append-fits, Looser, looser-fits, Holds, pay-one}
+use Rattle.driver.proofs.Owed.{Owed, leftOwed, nextOwed, askedOwed, stopOwed, transitionOwed, waitOwed, numbers, token, buffer, buffers, own, FitsOne, Fits, raised, older-fits, append-fits, Looser, looser-fits, Holds, pay-one}
 
 -- the book b says what the state s holds and owes
 pub record Kept (s : State) (b : Book) : Type 0 where
@@ -294,7 +292,7 @@ requests s b pool q l x rest K free P L e =
 -- no limit is above what the third demand allows
 abbrev Limits : List Owed → Type 0
 Limits [] = Unit {0}
-Limits (o ∷ os) = (o .transmit ≡ true → o .limit < cond (o .wants) 6 3) × Limits os
+Limits (o ∷ os) = (o .transmit ≡ true → o .limit < callsAllowed (o .wants)) × Limits os
 
 in-time : (os : List Owed) (es : List Entry) → Fits os es → Limits os → InTime es
 in-time [] [] F L = tt
@@ -302,11 +300,11 @@ in-time [] (e ∷ es) F L = absurd F
 in-time (o ∷ os) [] F L = absurd F
 in-time (o ∷ os) (e ∷ es) F L = (one-in-time, in-time os es (F .1) (L .1))
   where
-    one-in-time : e .transmit ≡ true → e .age < cond (e .wants) 6 3
+    one-in-time : e .transmit ≡ true → e .age < callsAllowed (e .wants)
     one-in-time t =
         let u : o .transmit ≡ true = sym (F .0 .transmit) ∙ t in
         let a : e .age ≤ o .limit = F .0 .age u in
-        let m : o .limit < cond (o .wants) 6 3 = L .0 u in rw (F .0 .wants) (omega arith)
+        let m : o .limit < callsAllowed (o .wants) = L .0 u in rw (F .0 .wants) (omega arith)
 
 next-limits : (n : Next) → Limits (nextOwed n)
 next-limits (Next.Tx q (AckSeqNum.Is k)) = (λ t. omega arith, tt)

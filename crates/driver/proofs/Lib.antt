@@ -5,3 +5,4 @@ pub mod Table
 pub mod History
 pub mod Refusals
 pub mod Reasons
+pub mod Promises

@@ -1,19 +1,16 @@
 -- The invariant of the book: what each wait owes, and the book that says so.
 -- Assumes nothing.
-use Prim.Native.Nat.{ℕ, suc, _+_, _<_, _≤_}
-use mathlib.Core.Path.{_≡_, refl, sym, _∙_, ap, subst}
-use mathlib.Core.Bool.{Bool, true, false, cond, not, _&&_, _||_, Bool·beq}
+use Prim.Native.Nat.{ℕ, suc, _+_, _≤_}
+use mathlib.Core.Path.{_≡_, refl, sym, _∙_, ap}
+use mathlib.Core.Bool.{Bool, true, false, not, _&&_, _||_, Bool·beq}
 use mathlib.Core.List.{List, [], _∷_, _++_}
-use lib.Dec.{eqb, ltb}
+use lib.Dec.{eqb}
 use lib.ListN.{length}
 use native.Mathlib.Omega.{arith}
 use borrow.Author.Tests.{eq-eqb, lt-ltb}
 use Rattle.radio_frame.specs.declared.Settings.{Settings}
-use Rattle.radio_frame.specs.declared.AckSeqNum.{AckSeqNum}
 use Rattle.tasks.specs.declared.Answer.{Answer}
-use Rattle.tasks.specs.declared.Answers.{Answers}
 use Rattle.tasks.specs.declared.Asked.{Asked}
-use Rattle.tasks.specs.declared.AwaitedAck.{AwaitedAck}
 use Rattle.tasks.specs.declared.Left.{Left}
 use Rattle.tasks.specs.declared.Next.{Next}
 use Rattle.tasks.specs.declared.RxTask.{RxTask}
@@ -21,8 +18,8 @@ use Rattle.tasks.specs.declared.Stop.{Stop}
 use Rattle.tasks.specs.declared.Transition.{Transition}
 use Rattle.tasks.specs.declared.TxTask.{TxTask}
 use Rattle.tasks.specs.declared.Wait.{Wait}
-use Rattle.driver.specs.Book.{Entry, Book, isNumber, older, answersTransmit, asks, hasNumber, strike, strikeNumber, takeAnswer, takeAnswers, one, count}
-use Rattle.driver.proofs.Count.{one-self, struck, shorter, has-count, still-once}
+use Rattle.driver.specs.Book.{Entry, isNumber, older, answersTransmit, asks, hasNumber, strike, strikeNumber, one, count}
+use Rattle.driver.proofs.Count.{one-self, struck, shorter, has-count}
 
 -- ---- What is owed: a request, and how many accepted calls may have followed it by now
 pub record Owed : Type 0 where

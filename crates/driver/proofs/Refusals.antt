@@ -1,35 +1,26 @@
 -- The first demand: the calls refuse by document 01's conditions, in its order, and a refused call changes nothing.
 -- Assumes nothing.
 use Prim.Native.Nat.{ℕ, _+_, _^_}
-use mathlib.Core.Path.{_≡_, refl, sym, _∙_, ap, subst}
-use mathlib.Core.Bool.{Bool, true, false, cond, not, _&&_, _||_}
-use mathlib.Core.List.{List, [], _∷_, _++_}
-use lib.Dec.{eqb, ltb, leb}
-use lib.ListN.{length, take, drop}
-use native.Mathlib.Omega.{arith}
-use borrow.Author.Tests.{eqb-true, eqb-false, ne-eqb}
+use mathlib.Core.Path.{_≡_, refl, sym, _∙_}
+use mathlib.Core.Bool.{Bool, true, false, cond, not, _&&_}
+use mathlib.Core.List.{List}
+use lib.Dec.{eqb, ltb}
+use lib.ListN.{length}
+use borrow.Author.Tests.{eqb-true}
 use Rattle.radio_frame.specs.declared.Settings.{Settings}
 use Rattle.radio_frame.specs.declared.AckSeqNum.{AckSeqNum}
 use Rattle.radio_frame.specs.Settings.{poolUnfit, lengthsUnfit, ownBuffersUnfit, settingsRefusal}
-use Rattle.radio_frame.specs.RadioFrame.{frameStart}
-use Rattle.ack.specs.Ack.{acknowledges}
-use Rattle.phy.specs.declared.Ifs.{Ifs}
 use Rattle.phy.specs.declared.LatestAckStart.{LatestAckStart}
 use Rattle.phy.specs.Spacing.{ifsOf, latestAckStartOf}
 use Rattle.header.specs.declared.PreliminaryFrameInfo.{PreliminaryFrameInfo}
-use Rattle.header.specs.Header.{infoOf}
 use Rattle.filter.specs.Filter.{forUs}
-use Rattle.tasks.specs.declared.Action.{Action}
-use Rattle.tasks.specs.declared.Answer.{Answer}
 use Rattle.tasks.specs.declared.Answers.{Answers}
 use Rattle.tasks.specs.declared.Asked.{Asked}
-use Rattle.tasks.specs.declared.AwaitedAck.{AwaitedAck}
 use Rattle.tasks.specs.declared.Call.{Call}
 use Rattle.tasks.specs.declared.Cause.{Cause}
 use Rattle.tasks.specs.declared.Left.{Left}
 use Rattle.tasks.specs.declared.Next.{Next}
 use Rattle.tasks.specs.declared.Request.{Request}
-use Rattle.tasks.specs.declared.Response.{Response}
 use Rattle.tasks.specs.declared.RxResult.{RxResult}
 use Rattle.tasks.specs.declared.RxTask.{RxTask}
 use Rattle.tasks.specs.declared.State.{State}
@@ -39,12 +30,12 @@ use Rattle.tasks.specs.declared.TaskResult.{TaskResult}
 use Rattle.tasks.specs.declared.Transition.{Transition}
 use Rattle.tasks.specs.declared.TxTask.{TxTask}
 use Rattle.tasks.specs.declared.Wait.{Wait}
-use Rattle.tasks.specs.Requests.{tokenHeld, bufferHeld, lengthUnfit, allowedOf, notAllowed, requestRefusal}
-use Rattle.tasks.specs.Results.{receivedUnfit, receivedRefusal, leaveOff, leaveReceiving, leaveSending, leaveSendingAck, ackResponse, ackReceived, leaveReceivingAck, leaveOf}
+use Rattle.tasks.specs.Requests.{requestRefusal}
+use Rattle.tasks.specs.Results.{receivedUnfit, receivedRefusal, leaveOff, leaveReceiving, leaveSending, leaveSendingAck, ackReceived, leaveReceivingAck, leaveOf}
 use Rattle.moves.specs.declared.Move.{Move}
-use Rattle.moves.specs.Move.{refusedOf, acceptedOf, guardedOf}
-use Rattle.asking.specs.Asking.{nackAnswer, departureOf, nextOf, requestAction, requestOf, noneOf, askingOf}
-use Rattle.entering.specs.Entering.{sendingMove, arrivalOf, requestEntered, withSpare, rearmEntered, ackTurnEntered, ackWaitStarted, ackWaitEntered, enteredOf, thenError, requestFellBack, fellBackOf, offRolledBack, requestRolledBack, rolledBackOf, enteringOf}
+use Rattle.moves.specs.Move.{refusedOf, guardedOf}
+use Rattle.asking.specs.Asking.{requestOf, noneOf, askingOf}
+use Rattle.entering.specs.Entering.{sendingMove, arrivalOf, requestEntered, rearmEntered, ackTurnEntered, ackWaitStarted, ackWaitEntered, enteredOf, requestFellBack, fellBackOf, offRolledBack, requestRolledBack, rolledBackOf, enteringOf}
 use Rattle.listening.specs.Listening.{listeningOf, frameStopped, outboundStopped, ackFailed, ackStopped, stoppedOf, stoppingOf}
 use Rattle.reading.specs.Reading.{requested, rearmMove, receiveMove, headerMove, arrivedRefusal, headerOf, readingOf}
 use Rattle.driver.specs.Step.{waitMove, moveOf, writtenBy, stepOf, stepPool}

@@ -1,17 +1,16 @@
 -- What a call can come to: one table of waits and calls, from which each property of all calls is proved.
 -- Assumes nothing.
-use Prim.Native.Nat.{ℕ, _+_, _<_, _≤_}
-use mathlib.Core.Path.{_≡_, refl, sym, _∙_, ap, subst}
+use Prim.Native.Nat.{ℕ, _+_, _<_}
+use mathlib.Core.Path.{_≡_, refl}
 use mathlib.Core.Bool.{Bool, true, false, cond, _||_}
 use mathlib.Core.List.{List, [], _∷_, _++_}
-use mathlib.Core.Logic.{_⊎_, inl, inr}
-use lib.Dec.{eqb, ltb, leb}
+use mathlib.Core.Logic.{inl, inr}
+use lib.Dec.{eqb, leb}
 use lib.ListN.{length, take, drop}
 use native.Mathlib.Omega.{arith}
-use borrow.Author.Tests.{eqb-true, eqb-false, ne-eqb}
+use borrow.Author.Tests.{eqb-true}
 use Rattle.radio_frame.specs.declared.Settings.{Settings}
 use Rattle.radio_frame.specs.declared.AckSeqNum.{AckSeqNum}
-use Rattle.radio_frame.specs.Settings.{poolUnfit, lengthsUnfit, ownBuffersUnfit, settingsRefusal}
 use Rattle.radio_frame.specs.RadioFrame.{frameStart}
 use Rattle.ack.specs.Ack.{acknowledges}
 use Rattle.phy.specs.declared.Ifs.{Ifs}
@@ -36,24 +35,23 @@ use Rattle.tasks.specs.declared.RxTask.{RxTask}
 use Rattle.tasks.specs.declared.State.{State}
 use Rattle.tasks.specs.declared.Stop.{Stop}
 use Rattle.tasks.specs.declared.StopResult.{StopResult}
+use Rattle.tasks.specs.declared.Task.{Task}
 use Rattle.tasks.specs.declared.TaskResult.{TaskResult}
 use Rattle.tasks.specs.declared.Transition.{Transition}
 use Rattle.tasks.specs.declared.TxTask.{TxTask}
 use Rattle.tasks.specs.declared.Wait.{Wait}
-use Rattle.tasks.specs.Requests.{tokenHeld, bufferHeld, lengthUnfit, allowedOf, notAllowed, requestRefusal}
-use Rattle.tasks.specs.Results.{receivedRefusal, leaveOff, leaveReceiving, leaveSending, leaveSendingAck, ackResponse, ackReceived, leaveReceivingAck, leaveOf}
+use Rattle.tasks.specs.Requests.{tokenHeld, bufferHeld, requestRefusal}
+use Rattle.tasks.specs.Results.{leaveOff, leaveReceiving, leaveSending, leaveSendingAck, ackResponse, ackReceived, leaveReceivingAck, leaveOf}
 use Rattle.moves.specs.declared.Move.{Move}
 use Rattle.moves.specs.Move.{refusedOf, acceptedOf, guardedOf}
 use Rattle.asking.specs.Asking.{nackAnswer, departureOf, nextOf, requestAction, requestOf, noneOf, askingOf}
 use Rattle.entering.specs.Entering.{sendingMove, arrivalOf, requestEntered, withSpare, rearmEntered, ackTurnEntered, ackWaitStarted, ackWaitEntered, enteredOf, thenError, requestFellBack, fellBackOf, offRolledBack, requestRolledBack, rolledBackOf, enteringOf}
 use Rattle.listening.specs.Listening.{listeningOf, frameStopped, outboundStopped, ackFailed, ackStopped, stoppedOf, stoppingOf}
 use Rattle.reading.specs.Reading.{requested, rearmMove, receiveMove, headerMove, headerOf, readingOf}
-use Rattle.driver.specs.declared.Outcome.{Outcome}
-use Rattle.driver.specs.Step.{waitMove, moveOf, stepOf, startOf}
-use Rattle.driver.specs.Book.{Entry, Book, Turn, Moment, answersTransmit, aged, enter, takeAnswers, bookStep, startBook, turn, after, one, count, Sound, AlwaysSound}
-use Rattle.driver.specs.Reasons.{Tells, isAck, Reason, received, failed, sent, acknowledged, other-heard, window-ended, Reasons, Awaits, WindowEnded, LeftFrom, ReachedFrom}
-use Rattle.driver.proofs.Count.{one-le, still-once}
-use Rattle.driver.proofs.Owed.{Owed, txOwed, rxOwed, leftOwed, nextOwed, askedOwed, waitOwed, buffers, own, later, raised, LooserOne, Looser, looser-refl, raised-append, Holds}
+use Rattle.driver.specs.Step.{waitMove, moveOf}
+use Rattle.driver.specs.Book.{Book, answersTransmit, aged, enter, bookStep, count}
+use Rattle.driver.specs.Reasons.{Tells, isAck, toTx, toRx, Reason, listening-ended, received, received-acknowledged, failed, sent, acknowledged, unacknowledged, window-ended, Reasons, LeftFrom, NextFrom, ReachedFrom}
+use Rattle.driver.proofs.Owed.{Owed, txOwed, rxOwed, leftOwed, nextOwed, waitOwed, buffers, own, later, raised, LooserOne, Looser, looser-refl, raised-append}
 use Rattle.driver.proofs.Kept.{PaysOne, Pays, stateAt}
 
 -- the answer is the one owed, by its own words
@@ -79,16 +77,16 @@ moveTo set wait action x k =
 -- reason, and each wait of an awaited ACK the call before it.
 pub data Legal (s : State) (pool : List ℕ) (c : Call) : Move → Type 0 where
   refuse : (k : ℕ) → eqb k 0 ≡ false → Legal s pool c (refusedOf s k)
-  stay : {action : Action} {k : AckSeqNum} (w′ : Wait) (x : Answers) (rest : List Owed) → Reasons s pool c x → ReachedFrom s c w′
+  stay : {action : Action} {k : AckSeqNum} (w′ : Wait) (x : Answers) (rest : List Owed) → Reasons s pool c x → ReachedFrom s pool c w′
       → ((b : Book) → enter pool c b ≡ aged b)
       → Pays x (raised (waitOwed (s .wait))) rest → Looser rest (waitOwed w′) → buffers rest ≡ buffers (waitOwed w′)
       → Legal s pool c (moveTo (s .set) w′ action x k)
   swap : {action : Action} {k : AckSeqNum} (set′ : Settings) (w′ : Wait) (x : Answers) (rest : List Owed)
-      → Reasons s pool c x → ReachedFrom s c w′ → ((b : Book) → enter pool c b ≡ aged b) → Pays x (raised (waitOwed (s .wait))) rest → Looser rest (waitOwed w′)
+      → Reasons s pool c x → ReachedFrom s pool c w′ → ((b : Book) → enter pool c b ≡ aged b) → Pays x (raised (waitOwed (s .wait))) rest → Looser rest (waitOwed w′)
       → ((y : ℕ) → count y (own (s .set)) + count y (buffers rest) ≡ count y (own set′) + count y (buffers (waitOwed w′)))
       → s .set .headroom ≡ set′ .headroom → Legal s pool c (moveTo set′ w′ action x k)
   enters : {q : Request} {action : Action} {k : AckSeqNum} (l : Left) (x : Answers) (rest : List Owed) → Reasons s pool c x
-      → LeftFrom s l → bufferHeld s (q .buffer) ≡ false → Pays x (raised (waitOwed (s .wait)) ++ nextOwed (nextOf (s .set) pool q (q .task))) rest
+      → LeftFrom s l × NextFrom s pool c (nextOf (s .set) pool q (q .task)) → bufferHeld s (q .buffer) ≡ false → Pays x (raised (waitOwed (s .wait)) ++ nextOwed (nextOf (s .set) pool q (q .task))) rest
       → Looser rest (waitOwed (Wait.Entering (Transition.Request l (nextOf (s .set) pool q (q .task)))))
       → buffers rest ≡ buffers (waitOwed (Wait.Entering (Transition.Request l (nextOf (s .set) pool q (q .task)))))
       → c ≡ Call.Request q
@@ -128,30 +126,39 @@ module _ (set : Settings) (pool : List ℕ) where
         neither (leb (s .set .count) (q .buffer)) _
         (passed (leb (s .set .count) (q .buffer) || bufferHeld s (q .buffer)) 7 _ (omega arith) (t .1) .0) .1
 
+    -- the request's number is noted from the pool
+    noted-at : (s : State) (task : Task) → NextFrom s pool (Call.Request q) (nextOf (s .set) pool q task)
+    unfolding nextOf
+    noted-at s (Task.Tx len cca) = record { request = q; call = refl; token = refl; buffer = refl; noted = refl }
+    noted-at s Task.Rx = tt
+
     request-legal : (a : Asked) → Legal (stateAt set (Wait.Asking a)) pool (Call.Request q) (requestOf (stateAt set (Wait.Asking a)) pool a q)
     unfolding requestOf departureOf bookStep N
     request-legal a = guard-legal (stateAt set (Wait.Asking a)) pool (Call.Request q) _ _ (λ ok. go a (free _ a ok))
       where
+        noted : (a : Asked) → NextFrom (stateAt set (Wait.Asking a)) pool (Call.Request q) (nextOf set pool q (q .task))
+        noted a = noted-at (stateAt set (Wait.Asking a)) (q .task)
+
         go : (a : Asked) → bufferHeld (stateAt set (Wait.Asking a)) (q .buffer) ≡ false
             → Legal (stateAt set (Wait.Asking a)) pool (Call.Request q)
             (acceptedOf set (Wait.Entering (Transition.Request (departureOf set a .left) (nextOf set pool q (q .task))))
             (requestAction q (departureOf set a .spacing) (q .task))
             (departureOf set a .answers))
-        go Asked.Idle f = enters Left.Off Answers.None N tt tt f refl (looser-refl N) refl refl
+        go Asked.Idle f = enters Left.Off Answers.None N tt (tt, noted Asked.Idle) f refl (looser-refl N) refl refl
         go (Asked.AfterWindow p) f =
-            enters Left.Off (departureOf set (Asked.AfterWindow p) .answers) N (received RxResult.RxWindowEnded) tt f (paid refl refl refl, refl) (looser-refl N) refl refl
+            enters Left.Off (departureOf set (Asked.AfterWindow p) .answers) N (listening-ended p refl) (tt, noted (Asked.AfterWindow p)) f (paid refl refl refl, refl) (looser-refl N) refl refl
         go (Asked.AfterAckWindow p t) f =
-            enters Left.Off (departureOf set (Asked.AfterAckWindow p t) .answers) N (window-ended p t refl) tt f (paid refl refl refl, refl) (looser-refl N) refl refl
+            enters Left.Off (departureOf set (Asked.AfterAckWindow p t) .answers) N (window-ended p t refl) (tt, noted (Asked.AfterAckWindow p t)) f (paid refl refl refl, refl) (looser-refl N) refl refl
         go (Asked.Receiving p i) f =
-            enters (Left.Receiving p) Answers.None _ tt tt f refl (rx-later p p refl, looser-refl N)
+            enters (Left.Receiving p) Answers.None _ tt (tt, noted (Asked.Receiving p i)) f refl (rx-later p p refl, looser-refl N)
             refl refl
         go (Asked.Sending p) f =
-            enters (Left.Sending p) Answers.None _ tt tt f refl (tx-later p false 1 2 (omega arith), looser-refl N)
+            enters (Left.Sending p) Answers.None _ tt (refl, noted (Asked.Sending p)) f refl (tx-later p false 1 2 (omega arith), looser-refl N)
             refl refl
         go (Asked.SendingAck i) f =
-            enters Left.SendingAck Answers.None N tt tt f refl (looser-refl N) refl refl
+            enters Left.SendingAck Answers.None N tt (tt, noted (Asked.SendingAck i)) f refl (looser-refl N) refl refl
         go (Asked.ReceivingAck a) f =
-            enters (Left.ReceivingAck a) Answers.None _ tt refl f refl (tx-later (a .task) true 4 5 (omega arith), looser-refl N)
+            enters (Left.ReceivingAck a) Answers.None _ tt (refl, noted (Asked.ReceivingAck a)) f refl (tx-later (a .task) true 4 5 (omega arith), looser-refl N)
             refl refl
 
   none-legal : (a : Asked) → Legal (stateAt set (Wait.Asking a)) pool Call.None (noneOf (stateAt set (Wait.Asking a)) a)
@@ -161,13 +168,13 @@ module _ (set : Settings) (pool : List ℕ) where
   none-legal (Asked.AfterAckWindow q t) =
       stay (Wait.Asking Asked.Idle) (nackAnswer q t) [] (window-ended q t refl) tt (λ c. refl) (paid refl refl refl, refl) tt refl
   none-legal (Asked.Receiving q i) =
-      stay (Wait.Entering (Transition.Request (Left.Receiving q) Next.Off)) Answers.None _ tt tt (λ c. refl) refl (rx-later q q refl, tt) refl
+      stay (Wait.Entering (Transition.Request (Left.Receiving q) Next.Off)) Answers.None _ tt (tt, tt) (λ c. refl) refl (rx-later q q refl, tt) refl
   none-legal (Asked.Sending q) =
-      stay (Wait.Entering (Transition.Request (Left.Sending q) Next.Off)) Answers.None _ tt tt (λ c. refl) refl (tx-later q false 1 2 (omega arith), tt) refl
+      stay (Wait.Entering (Transition.Request (Left.Sending q) Next.Off)) Answers.None _ tt (refl, tt) (λ c. refl) refl (tx-later q false 1 2 (omega arith), tt) refl
   none-legal (Asked.SendingAck i) =
-      stay (Wait.Entering (Transition.Request Left.SendingAck Next.Off)) Answers.None [] tt tt (λ c. refl) refl tt refl
+      stay (Wait.Entering (Transition.Request Left.SendingAck Next.Off)) Answers.None [] tt (tt, tt) (λ c. refl) refl tt refl
   none-legal (Asked.ReceivingAck a) =
-      stay (Wait.Entering (Transition.Request (Left.ReceivingAck a) Next.Off)) Answers.None _ tt refl (λ c. refl) refl (tx-later (a .task) true 4 5 (omega arith), tt) refl
+      stay (Wait.Entering (Transition.Request (Left.ReceivingAck a) Next.Off)) Answers.None _ tt (refl, tt) (λ c. refl) refl (tx-later (a .task) true 4 5 (omega arith), tt) refl
 
   asking-legal : (a : Asked) (c : Call) → Legal (stateAt set (Wait.Asking a)) pool c (askingOf (stateAt set (Wait.Asking a)) pool a c)
   unfolding askingOf bookStep
@@ -218,11 +225,12 @@ module _ (set : Settings) (pool : List ℕ) where
   leave-pays (Left.ReceivingAck a) (TaskResult.Rx (RxResult.CrcError t)) M h = ((paid refl refl refl, refl), tt)
 
   -- what is left answers for its reason
-  receiving-reasons : (s : State) (c : Call) (q : RxTask) (r : TaskResult) → Reasons s pool c (leaveReceiving set q r .answers)
+  receiving-reasons : (s : State) (c : Call) (q : RxTask) (r : TaskResult)
+      → ((x : RxResult) → r ≡ TaskResult.Rx x → Reason s pool c (toRx q (Response.Received x))) → Reasons s pool c (leaveReceiving set q r .answers)
   unfolding leaveReceiving
-  receiving-reasons s c q TaskResult.Off = tt
-  receiving-reasons s c q (TaskResult.Sent t) = tt
-  receiving-reasons s c q (TaskResult.Rx r) = received r
+  receiving-reasons s c q TaskResult.Off why = tt
+  receiving-reasons s c q (TaskResult.Sent t) why = tt
+  receiving-reasons s c q (TaskResult.Rx x) why = why x refl
 
   leave-reasons : (w : Wait) (c : Call) (l : Left) (n : Next) (r : TaskResult) → w ≡ Wait.Entering (Transition.Request l n) → Tells c r
       → Reasons (stateAt set w) pool c (leaveOf set pool r l .answers)
@@ -230,7 +238,8 @@ module _ (set : Settings) (pool : List ℕ) where
   leave-reasons w c Left.Off n TaskResult.Off e h = tt
   leave-reasons w c Left.Off n (TaskResult.Sent t) e h = tt
   leave-reasons w c Left.Off n (TaskResult.Rx r) e h = tt
-  leave-reasons w c (Left.Receiving q) n r e h = receiving-reasons (stateAt set w) c q r
+  leave-reasons w c (Left.Receiving q) n r e h =
+      receiving-reasons (stateAt set w) c q r (λ x p. received q n x e (rw p at h))
   leave-reasons w c (Left.Sending q) n TaskResult.Off e h = tt
   leave-reasons w c (Left.Sending q) n (TaskResult.Sent t) e h = sent q n t e h
   leave-reasons w c (Left.Sending q) n (TaskResult.Rx r) e h = tt
@@ -242,35 +251,36 @@ module _ (set : Settings) (pool : List ℕ) where
   leave-reasons w c (Left.ReceivingAck a) n (TaskResult.Rx (RxResult.Frame len t)) e h = heard (isAck set pool a (RxResult.Frame len t)) refl
     where
       heard : (b : Bool) → isAck set pool a (RxResult.Frame len t) ≡ b
-          → Reason (stateAt set w) pool c (cond (isAck set pool a (RxResult.Frame len t)) (Response.Sent (a .time)) (Response.Nack (a .time)))
+          → Reason (stateAt set w) pool c (toTx (a .task) (cond (isAck set pool a (RxResult.Frame len t)) (Response.Sent (a .time)) (Response.Nack (a .time))))
       heard true p = rw p (acknowledged a n (RxResult.Frame len t) e h p)
-      heard false p = rw p (other-heard a n (RxResult.Frame len t) e h p)
+      heard false p = rw p (unacknowledged a n (RxResult.Frame len t) e h p)
   leave-reasons w c (Left.ReceivingAck a) n (TaskResult.Rx RxResult.RxWindowEnded) e h = tt
-  leave-reasons w c (Left.ReceivingAck a) n (TaskResult.Rx (RxResult.CrcError t)) e h = other-heard a n (RxResult.CrcError t) e h refl
+  leave-reasons w c (Left.ReceivingAck a) n (TaskResult.Rx (RxResult.CrcError t)) e h = unacknowledged a n (RxResult.CrcError t) e h refl
 
-  then-reasons : (s : State) (c : Call) (x : Answers) (q : TxTask) (cause : Cause) → Reasons s pool c x → Reasons s pool c (thenError q cause x)
+  then-reasons : (s : State) (c : Call) (x : Answers) (q : TxTask) (cause : Cause) → Reasons s pool c x
+      → Reason s pool c (toTx q (Response.Error cause)) → Reasons s pool c (thenError q cause x)
   unfolding thenError
-  then-reasons s c Answers.None q cause R = failed cause
-  then-reasons s c (Answers.One a) q cause R = (R, failed cause)
-  then-reasons s c (Answers.Two a b) q cause R = R
+  then-reasons s c Answers.None q cause R why = why
+  then-reasons s c (Answers.One a) q cause R why = (R, why)
+  then-reasons s c (Answers.Two a b) q cause R why = R
 
   module _ (r : TaskResult) where
-    arrive-legal : (entry : ℕ) (w : Wait) (n : Next) (x : Answers)
+    arrive-legal : (entry : ℕ) (l : Left) (w : Wait) (n : Next) (x : Answers) → w ≡ Wait.Entering (Transition.Request l n)
         → Reasons (stateAt set w) pool (Call.Entered r entry) x → Pays x (raised (waitOwed w)) (raised (nextOwed n)) → Legal (stateAt set w) pool (Call.Entered r entry) (arrivalOf set x n)
     unfolding arrivalOf sendingMove bookStep
-    arrive-legal entry w (Next.Tx q (AckSeqNum.Is k)) x R P =
-        stay (Wait.Entering (Transition.AckWait q k)) x _ R tt (λ c. refl) P (tx-later q true 0 1 (omega arith), tt) refl
-    arrive-legal entry w (Next.Tx q AckSeqNum.None) x R P =
-        stay (Wait.Asking (Asked.Sending q)) x _ R tt (λ c. refl) P (tx-later q false 0 1 (omega arith), tt) refl
-    arrive-legal entry w (Next.Rx q) x R P = stay (Wait.Listening q) x _ R tt (λ c. refl) P (rx-later q q refl, tt) refl
-    arrive-legal entry w Next.Off x R P = stay (Wait.Asking Asked.Idle) x [] R tt (λ c. refl) P tt refl
+    arrive-legal entry l w (Next.Tx q (AckSeqNum.Is k)) x e R P =
+        stay (Wait.Entering (Transition.AckWait q k)) x _ R (record { left = l; from = e }) (λ c. refl) P (tx-later q true 0 1 (omega arith), tt) refl
+    arrive-legal entry l w (Next.Tx q AckSeqNum.None) x e R P =
+        stay (Wait.Asking (Asked.Sending q)) x _ R (record { left = l; from = e }) (λ c. refl) P (tx-later q false 0 1 (omega arith), tt) refl
+    arrive-legal entry l w (Next.Rx q) x e R P = stay (Wait.Listening q) x _ R tt (λ c. refl) P (rx-later q q refl, tt) refl
+    arrive-legal entry l w Next.Off x e R P = stay (Wait.Asking Asked.Idle) x [] R tt (λ c. refl) P tt refl
 
     module _ (l : Left) where
       request-entered-legal : (n : Next) (entry : ℕ) → Legal (stateAt set (Wait.Entering (Transition.Request l n))) pool (Call.Entered r entry) (requestEntered (stateAt set (Wait.Entering (Transition.Request l n))) pool l n r)
       unfolding requestEntered
       request-entered-legal n entry =
           guard-legal (stateAt set (Wait.Entering (Transition.Request l n))) pool (Call.Entered r entry) _ _
-          (λ ok. arrive-legal entry (Wait.Entering (Transition.Request l n)) n (leaveOf set pool r l .answers)
+          (λ ok. arrive-legal entry l (Wait.Entering (Transition.Request l n)) n (leaveOf set pool r l .answers) refl
           (leave-reasons (Wait.Entering (Transition.Request l n)) (Call.Entered r entry) l n r refl refl)
           (rw (raised-append (leftOwed l) (nextOwed n)) (leave-pays l r (raised (nextOwed n)) ok .0)))
 
@@ -291,7 +301,8 @@ module _ (set : Settings) (pool : List ℕ) where
           let pays = leave-pays l r (raised (nextOwed (Next.Tx q k))) ok in
           stay (Wait.Asking Asked.Idle) (thenError q cause (leaveOf set pool r l .answers)) []
           (then-reasons (stateAt set (Wait.Entering (Transition.Request l (Next.Tx q k)))) (Call.Fallback r cause) (leaveOf set pool r l .answers) q cause
-          (leave-reasons (Wait.Entering (Transition.Request l (Next.Tx q k))) (Call.Fallback r cause) l (Next.Tx q k) r refl refl))
+          (leave-reasons (Wait.Entering (Transition.Request l (Next.Tx q k))) (Call.Fallback r cause) l (Next.Tx q k) r refl refl)
+          (failed l q k r cause refl refl))
           tt (λ c. refl) (rw (raised-append (leftOwed l) (nextOwed (Next.Tx q k)))
           (then-pays (leaveOf set pool r l .answers) q k cause (raised (leftOwed l) ++ raised (nextOwed (Next.Tx q k))) (pays .1) (pays .0))) tt refl)
       request-fell-back-legal (Next.Rx q) cause = five
@@ -315,7 +326,7 @@ module _ (set : Settings) (pool : List ℕ) where
     unfolding ackTurnEntered bookStep leaveOf
     ack-turn-legal q i entry =
         guard-legal (stateAt set (Wait.Entering (Transition.AckTurn q i))) pool (Call.Entered r entry) _ _
-        (λ ok. stay (Wait.Asking (Asked.SendingAck i)) (leaveReceiving set q r .answers) [] (receiving-reasons (stateAt set (Wait.Entering (Transition.AckTurn q i))) (Call.Entered r entry) q r) tt (λ c. refl) (leave-pays (Left.Receiving q) r [] ok .0) tt refl)
+        (λ ok. stay (Wait.Asking (Asked.SendingAck i)) (leaveReceiving set q r .answers) [] (receiving-reasons (stateAt set (Wait.Entering (Transition.AckTurn q i))) (Call.Entered r entry) q r (λ x p. received-acknowledged q i x refl p)) tt (λ c. refl) (leave-pays (Left.Receiving q) r [] ok .0) tt refl)
 
     ack-wait-legal : (q : TxTask) (k entry : ℕ) → Legal (stateAt set (Wait.Entering (Transition.AckWait q k))) pool (Call.Entered r entry) (ackWaitEntered (stateAt set (Wait.Entering (Transition.AckWait q k))) q k entry r)
     unfolding ackWaitEntered ackWaitStarted bookStep
@@ -390,11 +401,11 @@ module _ (set : Settings) (pool : List ℕ) where
 
   -- from one wait of a receive request, or of a transmit request whose ACK is awaited, to another
   module _ (w : Wait) (c : Call) (other : (b : Book) → enter pool c b ≡ aged b) where
-    rx-moves : {action : Action} {k : AckSeqNum} (q : RxTask) (w′ : Wait) → ReachedFrom (stateAt set w) c w′ → waitOwed w ≡ rxOwed q ∷ [] → waitOwed w′ ≡ rxOwed q ∷ []
+    rx-moves : {action : Action} {k : AckSeqNum} (q : RxTask) (w′ : Wait) → ReachedFrom (stateAt set w) pool c w′ → waitOwed w ≡ rxOwed q ∷ [] → waitOwed w′ ≡ rxOwed q ∷ []
         → Legal (stateAt set w) pool c (moveTo set w′ action Answers.None k)
     rx-moves q w′ from e e′ = stay w′ Answers.None (raised (rxOwed q ∷ [])) tt from other (rw e) (rw e′ (rx-later q q refl, tt)) (rw e′)
 
-    tx-moves : {action : Action} {k : AckSeqNum} (q : TxTask) (l l′ : ℕ) (w′ : Wait) → ReachedFrom (stateAt set w) c w′ → l < l′ → waitOwed w ≡ txOwed q true l ∷ []
+    tx-moves : {action : Action} {k : AckSeqNum} (q : TxTask) (l l′ : ℕ) (w′ : Wait) → ReachedFrom (stateAt set w) pool c w′ → l < l′ → waitOwed w ≡ txOwed q true l ∷ []
         → waitOwed w′ ≡ txOwed q true l′ ∷ [] → Legal (stateAt set w) pool c (moveTo set w′ action Answers.None k)
     tx-moves q l l′ w′ from h e e′ =
         stay w′ Answers.None (raised (txOwed q true l ∷ [])) tt from other (rw e) (rw e′ (tx-later q true l l′ h, tt)) (rw e′)

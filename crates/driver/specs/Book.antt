@@ -1,11 +1,12 @@
--- The third demand's book: document 01, "The third demand's book". It is kept from start, the calls, the pool as each call
--- finds it, and the replies alone; nothing here but `after` and `Sound`'s last two claims names a state.
+-- The third demand's book: document 01, "The third demand's book", and the request's third demand, whose words the claims quote.
+-- The book is kept from start, the calls, the pool as each call finds it, and the replies alone: no definition up to `bookStep`
+-- names a state.
 -- Assumes nothing.
 use Prim.Native.Nat.{ℕ, suc, _+_, _≤_, _<_}
 use mathlib.Core.Path.{_≡_}
 use mathlib.Core.Bool.{Bool, true, false, cond, not, _&&_, _||_, Bool·beq}
 use mathlib.Core.List.{List, [], _∷_, _++_}
-use lib.Dec.{eqb, ltb}
+use lib.Dec.{eqb}
 use lib.ListN.{length, take, drop}
 use Rattle.radio_frame.specs.declared.Settings.{Settings}
 use Rattle.radio_frame.specs.declared.AckSeqNum.{AckSeqNum}
@@ -20,7 +21,7 @@ use Rattle.tasks.specs.declared.State.{State}
 use Rattle.tasks.specs.declared.Task.{Task}
 use Rattle.tasks.specs.Requests.{tokenHeld, bufferHeld}
 use Rattle.driver.specs.declared.Outcome.{Outcome}
-use Rattle.driver.specs.Step.{stepOf, startOf, startPool}
+use Rattle.driver.specs.Step.{stepOf}
 
 -- ---- The book
 
@@ -169,9 +170,13 @@ count x (y ∷ ys) = one x y + count x ys
 
 -- "No accepted transmit request is still unanswered once six accepted calls have followed its own (three if its frame wants
 -- no acknowledgement)."
+abbrev pub callsAllowed : Bool → ℕ
+callsAllowed true = 6
+callsAllowed false = 3
+
 abbrev pub InTime : List Entry → Type 0
 InTime [] = Unit {0}
-InTime (e ∷ es) = (e .transmit ≡ true → e .age < cond (e .wants) 6 3) × InTime es
+InTime (e ∷ es) = (e .transmit ≡ true → e .age < callsAllowed (e .wants)) × InTime es
 
 -- what holds after every call
 pub record Sound (m : Moment) : Type 0 where
@@ -191,9 +196,3 @@ pub record Sound (m : Moment) : Type 0 where
 unfoldable pub AlwaysSound : Settings → Outcome → Type 0
 AlwaysSound set o =
     o .refusal ≡ 0 → (ts : List Turn) → Sound (after (record { state = o .state; book = startBook set }) ts)
-
--- what start promises
-pub record Started (set : Settings) (pool : List ℕ) (r : Outcome) (written : List ℕ) : Type 0 where
-  pub returns : r ≡ startOf set pool
-  pub writes : written ≡ startPool set pool
-  pub always-sound : AlwaysSound set r

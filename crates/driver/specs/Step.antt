@@ -1,7 +1,6 @@
 -- Start and the nine calls: document 01, "Settings and pool", "Waits" and "Refusals, in checking order".
 -- Assumes nothing.
 use Prim.Native.Nat.{ℕ}
-use mathlib.Core.Path.{_≡_}
 use mathlib.Core.Bool.{cond}
 use mathlib.Core.List.{List}
 use lib.Dec.{eqb}
@@ -32,7 +31,7 @@ waitMove s pool c (Wait.Listening q) = listeningOf s q c
 waitMove s pool c (Wait.Stopping p) = stoppingOf s p c
 waitMove s pool c (Wait.Reading q) = readingOf s pool q c
 
--- 2 to 4 come before all others, in every call
+-- 2 to 4 come before 5 to 11, in every call
 unfoldable pub moveOf : State → List ℕ → Call → Move
 moveOf s pool c = guardedOf s (settingsRefusal (s .set) (length pool)) (waitMove s pool c (s .wait))
 
@@ -50,10 +49,6 @@ stepOf s pool c = outcomeOf (moveOf s pool c)
 
 unfoldable pub stepPool : State → List ℕ → Call → List ℕ
 stepPool s pool c = writtenBy (s .set) pool (moveOf s pool c .number)
-
-pub record Stepped (s : State) (pool : List ℕ) (c : Call) (r : Outcome) (written : List ℕ) : Type 0 where
-  pub returns : r ≡ stepOf s pool c
-  pub writes : written ≡ stepPool s pool c
 
 -- start: 2 to 4, then idle, and "02 10 00 into the ACK buffer's frame and no other byte"
 unfoldable pub startOf : Settings → List ℕ → Outcome

@@ -1,7 +1,7 @@
 // The driver service as a total machine: start, and the nine calls, each made on the state that the last one left (driver.rs).
 ghost use mathlib.Core.Path.{_≡_};
-ghost use Rattle.driver.specs.Step.{waitMove, moveOf, outcomeOf, writtenBy, startPool, Stepped};
-ghost use Rattle.driver.specs.Book.{Started};
+ghost use Rattle.driver.specs.Step.{waitMove, moveOf, outcomeOf, writtenBy, startPool};
+ghost use Rattle.driver.specs.Promises.{Stepped, Started};
 use moves::Move;
 use radio_frame::AckSeqNum;
 use radio_frame::Settings;

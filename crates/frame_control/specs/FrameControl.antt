@@ -12,7 +12,7 @@ use Rattle.frame_control.specs.declared.FrameControl.{FrameControl}
 unfoldable pub modeOf : ℕ → AddressingMode
 modeOf n = cond (eqb n 0) Absent (cond (eqb n 2) Short (cond (eqb n 3) Extended Unknown))
 
--- the number of bits `width` from bit `low` on
+-- the number that the `width` bits from bit `low` on form
 abbrev pub bits : ℕ → ℕ → ℕ → ℕ
 bits low width control = control / 2 ^ low % 2 ^ width
 

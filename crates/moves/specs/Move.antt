@@ -8,7 +8,6 @@ use Rattle.radio_frame.specs.declared.AckSeqNum.{AckSeqNum}
 use Rattle.tasks.specs.declared.Action.{Action}
 use Rattle.tasks.specs.declared.Answers.{Answers}
 use Rattle.tasks.specs.declared.Asked.{Asked}
-use Rattle.tasks.specs.declared.Reply.{Reply}
 use Rattle.tasks.specs.declared.RxTask.{RxTask}
 use Rattle.tasks.specs.declared.State.{State}
 use Rattle.tasks.specs.declared.TaskDirection.{TaskDirection}

@@ -22,7 +22,7 @@ bufferStart buffer = 144 * buffer
 unfoldable pub frameStart : Settings → ℕ → ℕ
 frameStart s buffer = bufferStart buffer + s .headroom
 
--- the length with checksum, as a 16-bit number that does not wrap
+-- the length with checksum, at most 65,535
 unfoldable pub sduLength : Settings → ℕ → ℕ
 sduLength s length = cond (ltb (length + s .«fcs_length») 65536) (length + s .«fcs_length») 65535
 

@@ -4,7 +4,7 @@ ghost use mathlib.Core.Bool.{cond};
 ghost use Rattle.radio_frame.specs.Settings.{poolUnfit, lengthsUnfit, ownBuffersUnfit, settingsRefusal};
 ghost use Rattle.radio_frame.specs.RadioFrame.{frameStart, sduLength, radioFrameOf, ackSeqNumOf};
 
-// What start fixes. The hardware address is its eight bytes, highest first, as one number.
+// What start sets; a re-arm exchanges the spare buffer. The hardware address is its eight bytes, highest first, as one number.
 pub struct Settings {
     pub count: u8,
     pub headroom: u8,

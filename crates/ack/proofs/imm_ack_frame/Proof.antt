@@ -25,7 +25,10 @@ same-length c = search needs
 
 returns : tie.Need-returns
 unfolding immAckFrameAt
-returns c = cc
+returns c =
+    let third = c .before .before in
+    let second = third .before .before .before .before in
+    rw (second .put2 .ensures, second .before .before .before .before .put .ensures) at (third .put3 .ensures)
 
 pub imm-ack-frame-spec : {M : Type 1} → statement M
 imm-ack-frame-spec =

@@ -34,7 +34,14 @@ both-requires-2 c κs = search needs
 
 returns : tie.Need-returns
 unfolding acknowledges maskEFFF
-returns c = cc
+returns c =
+    let third = c .before .before in
+    rw (
+      c .before .both .ensures,
+      third .byte-at3 .ensures,
+      third .before .byte-at2 .ensures,
+      third .before .before .byte-at .ensures,
+    ) at (c .both2 .ensures)
 
 pub is-ack-for-spec : {M : Type 1} → statement M
 is-ack-for-spec =

@@ -16,7 +16,7 @@ same-length c = search needs
 
 returns : tie.Need-returns
 unfolding seqNrSetAt
-returns c = cc
+returns c = c .before .before .put .ensures
 
 pub set-sequence-number-spec : {M : Type 1} → statement M
 set-sequence-number-spec = tie.close (tie.spec add-put put-requires same-length returns)

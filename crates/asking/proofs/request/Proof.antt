@@ -3,7 +3,7 @@
 use borrow.Author.Needs.{needs}
 use Rattle.asking.proofs.request.Statement.{statement}
 use Rattle.asking.proofs.request.Tie as tie
-use Rattle.asking.specs.Asking.{requestOf}
+use Rattle.asking.proofs.Requested.{requested}
 
 departure-from-requires : tie.Need-departure-from-requires
 departure-from-requires c κs = search needs
@@ -24,15 +24,14 @@ guarded-requires : tie.Need-guarded-requires
 guarded-requires c κs = search needs
 
 returns : tie.Need-returns
-unfolding requestOf
 returns c =
-    rw (
-      c .before .accepted .ensures,
-      c .before .before .request-action .ensures,
-      c .before .before .before .request-refusal .ensures,
-      c .before .before .before .before .next-task .ensures,
-      c .before .before .before .before .before .departure-from .ensures,
-    ) at (c .guarded .ensures)
+    requested _ _ _ _
+    (c .before .before .before .before .before .departure-from .ensures)
+    (c .before .before .before .before .next-task .ensures)
+    (c .before .before .request-action .ensures)
+    (c .before .before .before .request-refusal .ensures)
+    (c .before .accepted .ensures)
+    (c .guarded .ensures)
 
 pub request-spec : {M : Type 1} → statement M
 request-spec =

@@ -1,12 +1,28 @@
 -- `driver::start` meets its contract: the outcome and the pool are the definitions', and the theorem on lists holds of it.
 -- Assumes nothing.
 use borrow.Author.Needs.{needs}
-use Rattle.driver.specs.Step.{startOf}
+use Prim.Native.Nat.{ℕ}
+use mathlib.Core.Path.{_≡_}
+use mathlib.Core.List.{List}
+use lib.ListN.{length}
+use Rattle.radio_frame.specs.declared.Settings.{Settings}
+use Rattle.radio_frame.specs.Settings.{settingsRefusal}
+use Rattle.tasks.specs.declared.Answers.{Answers}
+use Rattle.tasks.specs.declared.Asked.{Asked}
+use Rattle.tasks.specs.declared.Wait.{Wait}
+use Rattle.moves.specs.declared.Move.{Move}
+use Rattle.moves.specs.Move.{guardedOf, toIdle}
+use Rattle.driver.specs.declared.Outcome.{Outcome}
+use Rattle.driver.specs.Step.{outcomeOf, startOf}
 use Rattle.driver.proofs.History.{history}
 use Rattle.driver.proofs.start.Statement.{statement}
 use Rattle.driver.proofs.start.Tie as tie
-use mathlib.Core.Path.{_≡_}
-use Rattle.driver.specs.declared.Outcome.{Outcome}
+
+by-start : (set : Settings) (pool : List ℕ) (o : Outcome) (g m : Move) (k : ℕ) → o ≡ outcomeOf g
+    → g ≡ guardedOf (record { set = set; wait = Wait.Asking Asked.Idle }) k m → m ≡ toIdle set Answers.None → k ≡ settingsRefusal set (length pool)
+    → o ≡ startOf set pool
+unfolding startOf
+by-start set pool o g m k e f h r = rw (f, h, r) at e
 
 settings-refusal-requires : tie.Need-settings-refusal-requires
 settings-refusal-requires c κs = search needs
@@ -27,15 +43,15 @@ same-length : tie.Need-same-length
 same-length c = search needs
 
 returns : tie.Need-returns
-unfolding startOf
 returns c =
     let guarded = c .before in
     let idle = guarded .before in
     let wrote = idle .before .before .before in
     let checked = wrote .before .before in
     let a = checked .before .before .args in
-    let is : c .outcome-of .result ≡ startOf (a .set) (a .pool .now) =
-    rw (guarded .guarded .ensures, idle .to-idle .ensures, checked .settings-refusal .ensures) at (c .outcome-of .ensures)
+    let is =
+    by-start (a .set) (a .pool .now) _ _ _ _ (c .outcome-of .ensures) (guarded .guarded .ensures) (idle .to-idle .ensures)
+    (checked .settings-refusal .ensures)
     in
     record { returns = is; writes = wrote .write-ack .ensures; always-sound = rw is (history (a .set) (a .pool .now)) }
 

@@ -1,7 +1,9 @@
--- `driver::step` meets its contract: the outcome is the move's, and the pool has the number that it writes.
+-- `driver::step` meets its contract: the outcome is the move's, the pool has the number that it writes, and the theorems on
+-- every call hold of them.
 -- Assumes nothing.
 use borrow.Author.Needs.{needs}
 use Rattle.driver.specs.Step.{stepOf, stepPool}
+use Rattle.driver.proofs.Promises.{stepped}
 use Rattle.driver.proofs.step.Statement.{statement}
 use Rattle.driver.proofs.step.Tie as tie
 
@@ -22,10 +24,10 @@ unfolding stepOf stepPool
 returns c =
     let wrote = c .before .before .before in
     let made = wrote .before .before in
-    record {
-      returns = rw (made .checked-move .ensures) at (c .outcome-of .ensures);
-      writes = rw (made .checked-move .ensures) at (wrote .write-number .ensures);
-    }
+    let a = made .before .before .before .before .args in
+    stepped (a .s) (a .pool .now) (a .c) _ _
+    (rw (made .checked-move .ensures) at (c .outcome-of .ensures))
+    (rw (made .checked-move .ensures) at (wrote .write-number .ensures))
 
 pub step-spec : {M : Type 1} → statement M
 step-spec =

@@ -3,6 +3,8 @@
 use borrow.Author.Needs.{needs}
 use borrow.Author.Tests.{eq-eqb, ne-eqb}
 use mathlib.Core.Path.{sym, _∙_}
+use lib.ListN.{length}
+use Rattle.radio_frame.specs.Settings.{settingsRefusal}
 use Rattle.driver.specs.Step.{startPool}
 use Rattle.driver.proofs.write_ack.Statement.{statement}
 use Rattle.driver.proofs.write_ack.Tie as tie
@@ -25,7 +27,8 @@ returns c =
     let wrote = c .before .before in
     let placed = wrote .before .before in
     let tested = placed .before in
-    simp (eq-eqb _ _ (sym (tested .before .settings-refusal .ensures) ∙ tested .if1 .taken))
+    let a = tested .before .before .before .args in
+    simp (eq-eqb (settingsRefusal (a .set) (length (a .pool .now))) 0 (sym (tested .before .settings-refusal .ensures) ∙ tested .if1 .taken))
     (rw (placed .frame-start .ensures) at (wrote .imm-ack-frame .ensures))
 
 returns-2 : tie.Need-returns-2

@@ -1,8 +1,7 @@
 -- `driver::write_number` meets its contract: the number's byte is written, or nothing.
 -- Assumes nothing.
 use borrow.Author.Needs.{needs}
-use mathlib.Core.Path.{refl, sym, _∙_, ap}
-use Rattle.radio_frame.specs.RadioFrame.{frameStart}
+use mathlib.Core.Path.{refl}
 use Rattle.util.proofs.Tests.{at-case}
 use Rattle.driver.specs.Step.{writtenBy}
 use Rattle.driver.proofs.write_number.Statement.{statement}

@@ -14,7 +14,7 @@ ack-seq-num-number-requires c κs = search needs
 
 -- src/lib.rt:86:1
 returns : tie.Need-returns
-returns c = cc
+returns c = rw (c .before .ack-seq-num .ensures) at (c .ack-seq-num-number .ensures)
 
 pub widosha-ack-seq-num-spec : {M : Type 1} → statement M
 widosha-ack-seq-num-spec =

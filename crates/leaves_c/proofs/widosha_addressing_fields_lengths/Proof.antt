@@ -18,7 +18,7 @@ lengths-number-requires c κs = search needs
 
 -- src/lib.rt:63:1
 returns : tie.Need-returns
-returns c = cc
+returns c = rw (c .before .addressing-fields-lengths .ensures, c .before .before .fields .ensures) at (c .lengths-number .ensures)
 
 pub widosha-addressing-fields-lengths-spec : {M : Type 1} → statement M
 widosha-addressing-fields-lengths-spec =

@@ -14,7 +14,7 @@ ifs-number-requires c κs = search needs
 
 -- src/lib.rt:102:1
 returns : tie.Need-returns
-returns c = cc
+returns c = rw (c .before .from-mpdu-length .ensures) at (c .ifs-number .ensures)
 
 pub widosha-from-mpdu-length-spec : {M : Type 1} → statement M
 widosha-from-mpdu-length-spec =

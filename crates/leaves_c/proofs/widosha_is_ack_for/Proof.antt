@@ -14,7 +14,7 @@ flag-number-requires c κs = search needs
 
 -- src/lib.rt:94:1
 returns : tie.Need-returns
-returns c = cc
+returns c = rw (c .before .is-ack-for .ensures) at (c .flag-number .ensures)
 
 pub widosha-is-ack-for-spec : {M : Type 1} → statement M
 widosha-is-ack-for-spec = tie.close (tie.spec is-ack-for-requires flag-number-requires returns)

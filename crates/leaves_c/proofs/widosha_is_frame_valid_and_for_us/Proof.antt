@@ -18,7 +18,7 @@ flag-number-requires c κs = search needs
 
 -- src/lib.rt:72:1
 returns : tie.Need-returns
-returns c = cc
+returns c = rw (c .before .is-frame-valid-and-for-us .ensures, c .before .before .preliminary-frame-info .ensures) at (c .flag-number .ensures)
 
 pub widosha-is-frame-valid-and-for-us-spec : {M : Type 1} → statement M
 widosha-is-frame-valid-and-for-us-spec =

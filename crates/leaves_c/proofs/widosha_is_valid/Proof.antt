@@ -18,7 +18,7 @@ flag-number-requires c κs = search needs
 
 -- src/lib.rt:55:1
 returns : tie.Need-returns
-returns c = cc
+returns c = rw (c .before .is-valid .ensures, c .before .before .fields .ensures) at (c .flag-number .ensures)
 
 pub widosha-is-valid-spec : {M : Type 1} → statement M
 widosha-is-valid-spec =

@@ -16,7 +16,7 @@ either-requires-3 c κs = search needs
 
 returns : tie.Need-returns
 unfolding lengthsUnfit
-returns c = cc
+returns c = rw (c .before .either2 .ensures, c .before .before .before .before .either .ensures) at (c .either3 .ensures)
 
 pub lengths-unfit-spec : {M : Type 1} → statement M
 lengths-unfit-spec =

@@ -13,7 +13,7 @@ either-requires-2 c κs = search needs
 
 returns : tie.Need-returns
 unfolding ownBuffersUnfit
-returns c = cc
+returns c = rw (c .before .before .either .ensures) at (c .either2 .ensures)
 
 pub own-buffers-unfit-spec : {M : Type 1} → statement M
 own-buffers-unfit-spec = tie.close (tie.spec either-requires either-requires-2 returns)

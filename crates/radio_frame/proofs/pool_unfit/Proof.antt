@@ -19,7 +19,7 @@ either-requires-2 c κs = search needs
 
 returns : tie.Need-returns
 unfolding poolUnfit
-returns c = cc
+returns c = rw (c .before .before .either .ensures) at (c .either2 .ensures)
 
 pub pool-unfit-spec : {M : Type 1} → statement M
 pool-unfit-spec =

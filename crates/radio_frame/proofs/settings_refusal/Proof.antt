@@ -25,7 +25,15 @@ refuse-if-requires-3 c κs = search needs
 
 returns : tie.Need-returns
 unfolding settingsRefusal
-returns c = cc
+returns c =
+    let own = c .before .before .before in
+    rw (
+      c .before .refuse-if2 .ensures,
+      c .before .before .refuse-if .ensures,
+      own .own-buffers-unfit .ensures,
+      own .before .lengths-unfit .ensures,
+      own .before .before .pool-unfit .ensures,
+    ) at (c .refuse-if3 .ensures)
 
 pub settings-refusal-spec : {M : Type 1} → statement M
 settings-refusal-spec =

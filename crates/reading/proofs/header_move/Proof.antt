@@ -3,8 +3,7 @@
 use borrow.Author.Needs.{needs}
 use Rattle.reading.proofs.header_move.Statement.{statement}
 use Rattle.reading.proofs.header_move.Tie as tie
-use Rattle.reading.specs.Reading.{headerMove}
-use mathlib.Core.Path.{_∙_, sym}
+use Rattle.reading.proofs.Decided.{received, rearmed}
 
 is-frame-valid-and-for-us-requires : tie.Need-is-frame-valid-and-for-us-requires
 is-frame-valid-and-for-us-requires c κs = search needs
@@ -22,18 +21,20 @@ rearm-requires : tie.Need-rearm-requires
 rearm-requires c κs = search needs
 
 returns : tie.Need-returns
-unfolding headerMove
 returns c =
-    rw (sym (c .before .before .before .before .is-frame-valid-and-for-us .ensures) ∙ c .before .before .before .if1 .taken)
-    (rw (
-      c .before .requested-ack .ensures,
-      c .before .before .from-mpdu-length .ensures,
-    ) at (c .receive .ensures))
+    received _ _ _ _
+    (c .before .before .before .before .is-frame-valid-and-for-us .ensures)
+    (c .before .before .before .if1 .taken)
+    (c .before .before .from-mpdu-length .ensures)
+    (c .before .requested-ack .ensures)
+    (c .receive .ensures)
 
 returns-2 : tie.Need-returns-2
-unfolding headerMove
 returns-2 c =
-    rw (sym (c .before .before .is-frame-valid-and-for-us .ensures) ∙ c .before .if1 .left) (c .rearm .ensures)
+    rearmed _ _ _ _
+    (c .before .before .is-frame-valid-and-for-us .ensures)
+    (c .before .if1 .left)
+    (c .rearm .ensures)
 
 pub header-move-spec : {M : Type 1} → statement M
 header-move-spec =

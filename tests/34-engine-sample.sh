@@ -1,0 +1,6 @@
+# The rest of what driver_replay is run on, and of what it must print, is what the Rust service says.
+if ! [ -x target/oracle/target/oracle ]; then
+    echo "no comparison with the Rust service: target/oracle/target/oracle was not built"
+    exit 77
+fi
+exec python3 -B tests/engine/sample.py rust crates/driver_replay target/oracle/target/oracle

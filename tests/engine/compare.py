@@ -1,0 +1,267 @@
+"""Compares driver_replay with the unchanged Rust service and with a model of document 01, over random walks.
+
+    compare.py OURS ORACLE LIST [CALLS [SEED]]
+
+OURS is the program driver_replay, ORACLE the oracle of ../shared/oracle, LIST the file that lists the classes of differences
+(lines 'Engine class `NAME`', each followed by its smallest script). Ends with 0 only if every reply and every pool byte is the
+same in all three, or the difference is in a listed class, every listed class occurs, every call is made in every wait and every
+refusal 2 to 11 is met. With '-' for ORACLE the comparison is with the model alone.
+"""
+
+import collections
+import re
+import subprocess
+import sys
+import time
+
+from model import WAITS
+from records import CALLS, KINDS, SILENT, ack_line, from_script, reply_of, to_line, to_record, to_script
+from walk import Walk
+
+CHUNK = 20000
+
+
+class Wrong(Exception):
+    pass
+
+
+def run(program, text):
+    done = subprocess.run([program], input=text.encode(), stdout=subprocess.PIPE, stderr=subprocess.PIPE)
+    if done.returncode:
+        raise Wrong("%s ended with %d: %s" % (program, done.returncode, done.stderr.decode()[:500]))
+    return done.stdout.decode()
+
+
+def model_line(item):
+    """The line that document 01's model expects of driver_replay."""
+    what = item.call[0]
+    if what == "dump":
+        return "d %08x %s        \n" % (item.call[1], item.reply.hex())
+    if what == "ack":
+        return ("a %08x %s" % (item.reply[0], item.reply[1].hex())).ljust(115) + "\n"
+    return to_line(KINDS[what], *item.reply)
+
+
+def records(items):
+    return "".join([to_record(item.call) for item in items])
+
+
+def script(items):
+    lines = []
+    for item in items:
+        if item.asked:
+            what = item.call[0]
+            lines.append("dump" if what in ("dump", "ack") else to_script(item.call))
+    return "\n".join(lines) + "\n"
+
+
+def since_start(items, index):
+    """The script from the last accepted start up to an item."""
+    first = max([i for i in range(index + 1) if items[i].call[0] == "start" and items[i].reply[0] == 0], default=0)
+    return "\n".join("    " + to_script(item.call) for item in items[first:index + 1])
+
+
+class Tally:
+    def __init__(self):
+        self.items = self.calls = self.asked = self.pool_bytes = self.starts = 0
+        self.waits = collections.Counter()
+        self.pairs = collections.Counter()
+        self.accepted = collections.Counter()
+        self.refusals = collections.Counter()
+        self.unasked = collections.Counter()
+        self.classes = collections.Counter()
+
+
+def rust_line(item, text):
+    """The oracle's reply as a line; a refusal takes the model's number, or 255 where the model has none."""
+    refusal, action, answers = reply_of(text)
+    if refusal is None:
+        refusal = item.reply[0] or 255
+    return to_line(KINDS[item.call[0]], refusal, action, answers)
+
+
+def judge_rust(items, ours, theirs, tally):
+    """Our lines against the oracle's."""
+    lines = iter(theirs)
+    pool = None
+    for index, (item, line) in enumerate(zip(items, ours)):
+        what = item.call[0]
+        if what == "dump":
+            if item.asked:
+                pool = bytes.fromhex(next(lines).split(" ", 1)[1])
+            place = item.call[1]
+            if line != "d %08x %s        \n" % (place, pool[place:place + 48].hex()):
+                raise Wrong("pool bytes from %d on differ from the Rust's after\n%s" % (place, since_start(items, index)))
+            tally.pool_bytes += 48
+            continue
+        if not item.asked:
+            continue
+        text = next(lines)
+        if what == "ack":
+            seen = bytes.fromhex(text.split(" ", 1)[1])
+            at = item.reply[0]
+            same = line == ack_line(seen, at)
+            expected = item.group is not None and ack_line(seen, at) == ack_line_of(item.rust)
+            tally.pool_bytes += 3
+        else:
+            theirs_line = rust_line(item, text)
+            same = line == theirs_line
+            expected = item.group is not None and reply_of(text) == item.rust
+            tally.asked += 1
+        if item.group is None and not same:
+            raise Wrong("a difference in no class: the Rust says '%s', ours\n    %s after\n%s" % (
+                text, line, since_start(items, index)))
+        if item.group is not None:
+            if same or not expected:
+                raise Wrong("class %s: the Rust says '%s', which is not what its list says, after\n%s" % (
+                    item.group, text, since_start(items, index)))
+            tally.classes[item.group] += 1
+    rest = list(lines)
+    if len(rest) != 1:
+        raise Wrong("the oracle printed %d lines too many" % (len(rest) - 1))
+
+
+def ack_line_of(seen):
+    at, data = seen
+    return ("a %08x %s" % (at, data.hex())).ljust(115) + "\n"
+
+
+def judge_model(items, ours):
+    for index, (item, line) in enumerate(zip(items, ours)):
+        expected = model_line(item)
+        if line != expected:
+            raise Wrong("ours is not what document 01's model says:\n    %s    %s after\n%s" % (
+                line, expected, since_start(items, index)))
+
+
+def count(items, tally):
+    for item in items:
+        if item.call[0] == "start":
+            tally.starts += 1
+        if item.wait is None:
+            continue
+        tally.calls += 1
+        refusal = item.reply[0]
+        tally.refusals[refusal] += 1
+        if not item.asked:
+            tally.unasked[refusal] += 1
+        if item.wait != "start":
+            tally.waits[item.wait] += 1
+            tally.pairs[item.wait, item.call[0]] += 1
+            if refusal == 0:
+                tally.accepted[item.wait, item.call[0]] += 1
+
+
+def chunk(programs, seed, calls, tally, classes=True):
+    walk = Walk(seed, classes)
+    every = walk.run(calls)
+    printed = [item for item in every if item.call[0] not in SILENT]
+    out = run(programs[0], records(every))
+    ours = out.splitlines(keepends=True)
+    if len(ours) != len(printed):
+        raise Wrong("ours printed %d lines, not %d" % (len(ours), len(printed)))
+    judge_model(printed, ours)
+    if programs[1]:
+        theirs = run(programs[1], script(every)).splitlines()
+        judge_rust(printed, ours, theirs, tally)
+    tally.items += len(every)
+    count(every, tally)
+
+
+def listed(path, what):
+    """What the list names so, each with its script."""
+    text = open(path).read()
+    found = {}
+    for match in re.finditer(r"^Engine %s `([^`]+)`(.*?)(?=^Engine |^#|\Z)" % what, text, re.M | re.S):
+        found[match.group(1)] = re.findall(r"^    (\S.*)$", match.group(2), re.M)
+    if not found:
+        raise Wrong("%s lists no 'Engine %s'" % (path, what))
+    return found
+
+
+def check_scripts(programs, classes):
+    """Each class's smallest script: the replies of both are as the list says, and the last one differs."""
+    for name, lines in classes.items():
+        calls, ours_say, rust_says = [], [], []
+        for line in lines:
+            call, _, replies = line.partition(" -> ")
+            calls += from_script(call.strip())
+            if replies:
+                ours, _, rust = replies.partition(" <> ")
+                ours_say.append(ours.strip())
+                rust_says.append((rust or ours).strip())
+        out = run(programs[0], "".join(map(to_record, [("clear",)] + calls))).splitlines(keepends=True)
+        kinds = [KINDS[c[0]] for c in calls if c[0] not in SILENT]
+        for line, kind, say in zip(out, kinds, ours_say, strict=True):
+            expected = say if kind == "a" else to_line(kind, *reply_of(say)).strip()
+            if (line.split()[2] if kind == "a" else line.strip()) != expected:
+                raise Wrong("class %s: ours says %s, the list '%s'" % (name, line, say))
+        theirs = run(programs[1], "\n".join("dump" if c[0] == "ack" else to_script(c) for c in calls) + "\n").splitlines()
+        settings = calls[0]
+        at = 144 * settings[8] + settings[2]
+        for text, kind, say in zip(theirs, kinds, rust_says):
+            seen = text.split()[1][2 * at:2 * at + 6] if kind == "a" else text
+            if seen != say:
+                raise Wrong("class %s: the Rust says '%s', the list '%s'" % (name, seen, say))
+        if ours_say[-1] == rust_says[-1]:
+            raise Wrong("class %s: its script ends without a difference" % name)
+
+
+def report(tally, seconds):
+    print("%d records, %d calls (%d of them starts), %d of them asked of the Rust too, %d pool bytes compared, %.0f s" % (
+        tally.items, tally.calls, tally.starts, tally.asked, tally.pool_bytes, seconds))
+    print("refusals: " + ", ".join("%d: %d" % (k, v) for k, v in sorted(tally.refusals.items())))
+    print("not asked of the Rust: " + ", ".join("%d: %d" % (k, v) for k, v in sorted(tally.unasked.items())))
+    print("classes: " + ", ".join("%s: %d" % (k, v) for k, v in sorted(tally.classes.items())))
+    print("%-16s %9s  %s" % ("wait", "reached", "  ".join("%10s" % c for c in CALLS)))
+    for wait in WAITS:
+        cells = ["%d/%d" % (tally.accepted[wait, c], tally.pairs[wait, c]) for c in CALLS]
+        print("%-16s %9d  %s" % (wait, tally.waits[wait], "  ".join("%10s" % c for c in cells)))
+    print("(each cell: accepted/made)")
+
+
+def check_coverage(tally):
+    few = [w for w in WAITS if tally.waits[w] * 2000 < tally.calls]
+    never = [p for p in ((w, c) for w in WAITS for c in CALLS) if tally.pairs[p] == 0]
+    unmet = [n for n in range(2, 12) if tally.refusals[n] == 0]
+    if few or never or unmet:
+        raise Wrong("waits hardly reached: %s; calls never made in a wait: %s; refusals never met: %s" % (few, never, unmet))
+
+
+def check_classes(tally, classes, path):
+    for name in sorted(set(classes) | set(tally.classes)):
+        if name not in classes:
+            raise Wrong("class %s occurs and is not listed in %s" % (name, path))
+        if tally.classes[name] == 0:
+            raise Wrong("class %s is listed and does not occur" % name)
+
+
+def main():
+    ours, oracle, path = sys.argv[1:4]
+    calls = int(sys.argv[4]) if len(sys.argv) > 4 else 100000
+    seed = int(sys.argv[5]) if len(sys.argv) > 5 else 1
+    programs = (ours, None if oracle == "-" else oracle)
+    begin, index, tally = time.time(), 0, Tally()
+    try:
+        classes = listed(path, "class")
+        if programs[1]:
+            check_scripts(programs, classes)
+            check_scripts(programs, listed(path, "unasked"))
+        while (tally.asked if programs[1] else tally.calls) < calls:
+            chunk(programs, "%d/%d" % (seed, index), CHUNK, tally)
+            index += 1
+        check_coverage(tally)
+        if programs[1]:
+            check_classes(tally, classes, path)
+    except Wrong as wrong:
+        report(tally, time.time() - begin)
+        print("FAILED in walk %d of seed %d: %s" % (index, seed, wrong))
+        return 1
+    report(tally, time.time() - begin)
+    against = "the Rust's and the model's, but for the listed classes" if programs[1] else "the model's"
+    print("seed %d, %d walks of %d calls: all replies and pool bytes are %s" % (seed, index, CHUNK, against))
+    return 0
+
+
+if __name__ == "__main__":
+    sys.exit(main())

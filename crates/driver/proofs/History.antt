@@ -31,7 +31,7 @@ step-keeps s b pool c K = go (moveOf s pool c) (step-legal s pool c)
     go m (refuse k e) = rw e K
     go m (stay w′ x rest R from other P L same) = rw (other b) (stays s b w′ x rest K P L same)
     go m (swap set′ w′ x rest R from other P L same head) = rw (other b) (moved s b set′ w′ x rest K P L same head)
-    go m (enters {q} l x rest R from free P L same e) = rw e (requests s b pool q l x rest K free P L same)
+    go m (enters {q} l x rest R from free new P L same e) = rw e (requests s b pool q l x rest K free new P L same)
 
 kept-after : (ts : List Turn) (m : Moment) → Kept (m .state) (m .book) → Kept (after m ts .state) (after m ts .book)
 unfolding after turn stepOf
@@ -55,6 +55,7 @@ started set differ =
             requests = tt;
             same = λ x. omega arith;
             once = λ x. still-once (set .«ack_buffer») x (set .«spare_buffer» ∷ []) (simp other) (omega (arith, one-le x (set .«spare_buffer»)));
+            one-each = λ t. omega arith;
             size = refl;
             fault = refl;
           };

@@ -28,7 +28,7 @@ use Rattle.tasks.specs.Requests.{leftSlot, nextSlot, askedSlot, stopSlot, trans
 use Rattle.moves.specs.declared.Move.{Move}
 use Rattle.moves.specs.Move.{refusedOf, guardedOf}
 use Rattle.asking.specs.Asking.{nextOf}
-use Rattle.driver.specs.Book.{Entry, Book, entryOf, older, aged, enter, answersTransmit, hasToken, hasNumber, takeAnswers, bookStep, count, callsAllowed, InTime, Sound}
+use Rattle.driver.specs.Book.{Entry, Book, entryOf, older, aged, enter, answersTransmit, hasToken, hasNumber, takeAnswers, bookStep, tokens, count, callsAllowed, InTime, Sound}
 use Rattle.driver.proofs.Count.{has-count, none-there, still-once}
 use Rattle.driver.proofs.Owed.{Owed, leftOwed, nextOwed, askedOwed, stopOwed, transitionOwed, waitOwed, numbers, token, buffer, buffers, own, FitsOne, Fits, raised, older-fits, append-fits, Looser, looser-fits, Holds, pay-one}
 
@@ -51,9 +51,9 @@ guard-keeps s b pool c k m K f = go (eqb k 0) refl
     go false e = rw e (rw e K)
 
 -- ---- A call that enters no request
-buffers-raised : (os : List Owed) → buffers (raised os) ≡ buffers os
-buffers-raised [] = refl
-buffers-raised (o ∷ os) = ap (λ (l : List ℕ). o .buffer ∷ l) (buffers-raised os)
+numbers-raised : (pick : ℕ → ℕ → ℕ) (os : List Owed) → numbers pick (raised os) ≡ numbers pick os
+numbers-raised pick [] = refl
+numbers-raised pick (o ∷ os) = ap (λ (l : List ℕ). pick (o .token) (o .buffer) ∷ l) (numbers-raised pick os)
 
 length-older : (es : List Entry) → length (older es) ≡ length es
 length-older [] = refl
@@ -64,8 +64,9 @@ aged-keeps : (k : List ℕ) (os : List Owed) (es : List Entry) (h : List ℕ) (f
 aged-keeps k os es h f H =
     record {
       requests = older-fits os es (H .requests);
-      same = λ x. H .same x ∙ ap (λ (l : List ℕ). count x k + count x l) (sym (buffers-raised os));
+      same = λ x. H .same x ∙ ap (λ (l : List ℕ). count x k + count x l) (sym (numbers-raised buffer os));
       once = H .once;
+      one-each = λ t. rw (numbers-raised token os) (H .one-each t);
       size = rw (length-older es) (H .size);
       fault = H .fault;
     }
@@ -102,6 +103,12 @@ head-kept Answers.None b = refl
 head-kept (Answers.One a) b = refl
 head-kept (Answers.Two a c) b = refl
 
+looser-tokens : (os os′ : List Owed) → Looser os os′ → numbers token os ≡ numbers token os′
+looser-tokens [] [] L = refl
+looser-tokens [] (o ∷ os) L = absurd L
+looser-tokens (o ∷ os) [] L = absurd L
+looser-tokens (o ∷ os) (o′ ∷ os′) L = rw (L .0 .token, looser-tokens os os′ (L .1))
+
 -- the rest is what the next wait owes
 settle : (k k′ : List ℕ) (rest os′ : List Owed) (es : List Entry) (h : List ℕ) (f : Bool) → Holds k rest es h f → Looser rest os′
     → ((x : ℕ) → count x k + count x (buffers rest) ≡ count x k′ + count x (buffers os′)) → Holds k′ os′ es h f
@@ -110,6 +117,7 @@ settle k k′ rest os′ es h f H L same =
       requests = looser-fits rest os′ es L (H .requests);
       same = λ x. H .same x ∙ same x;
       once = H .once;
+      one-each = λ t. rw (looser-tokens rest os′ L) at (H .one-each t);
       size = H .size;
       fault = H .fault;
     }
@@ -226,60 +234,69 @@ count-append : (x : ℕ) (l m : List ℕ) → count x (l ++ m) ≡ count x l + c
 count-append x [] m = omega arith
 count-append x (y ∷ l) m = omega (arith, count-append x l m)
 
-buffers-append : (os ps : List Owed) → buffers (os ++ ps) ≡ buffers os ++ buffers ps
-buffers-append [] ps = refl
-buffers-append (o ∷ os) ps = ap (λ (l : List ℕ). o .buffer ∷ l) (buffers-append os ps)
+numbers-append : (pick : ℕ → ℕ → ℕ) (os ps : List Owed) → numbers pick (os ++ ps) ≡ numbers pick os ++ numbers pick ps
+numbers-append pick [] ps = refl
+numbers-append pick (o ∷ os) ps = ap (λ (l : List ℕ). pick (o .token) (o .buffer) ∷ l) (numbers-append pick os ps)
 
 length-one-more : (es : List Entry) (e : Entry) → length (es ++ e ∷ []) ≡ suc (length es)
 length-one-more [] e = refl
 length-one-more (f ∷ es) e = ap suc (length-one-more es e)
 
+-- one more request: a number of it stands once more
+counted : (pick : ℕ → ℕ → ℕ) (x : ℕ) (os : List Owed) (o : Owed)
+    → count x (numbers pick (raised os ++ o ∷ [])) ≡ count x (numbers pick os) + count x (pick (o .token) (o .buffer) ∷ [])
+counted pick x os o =
+    ap (count x) (numbers-append pick (raised os) (o ∷ []))
+    ∙ count-append x (numbers pick (raised os)) (pick (o .token) (o .buffer) ∷ [])
+    ∙ ap (λ (l : List ℕ). count x l + count x (pick (o .token) (o .buffer) ∷ [])) (numbers-raised pick os)
+
 one-more : (k : List ℕ) (os : List Owed) (es : List Entry) (h : List ℕ) (f : Bool) (o : Owed) (e : Entry) → Holds k os es h f
-    → FitsOne o e → count (o .buffer) h ≡ 0 → Holds k (raised os ++ o ∷ []) (older es ++ e ∷ []) (o .buffer ∷ h) f
-one-more k os es h f o e H F free =
+    → FitsOne o e → count (o .buffer) h ≡ 0 → count (o .token) (numbers token os) ≡ 0
+    → Holds k (raised os ++ o ∷ []) (older es ++ e ∷ []) (o .buffer ∷ h) f
+one-more k os es h f o e H F free new =
     record {
       requests = append-fits (raised os) (older es) o e (older-fits os es (H .requests)) F;
-      same =
-          λ x.
-          let n : count x (buffers (raised os ++ o ∷ [])) ≡ count x (buffers os) + count x (o .buffer ∷ []) =
-          ap (count x) (buffers-append (raised os) (o ∷ []))
-          ∙ count-append x (buffers (raised os)) (o .buffer ∷ [])
-          ∙ ap (λ (l : List ℕ). count x l + count x (o .buffer ∷ [])) (buffers-raised os)
-          in
-          omega (arith, H .same x);
+      same = λ x. omega (arith, H .same x, counted buffer x os o);
       once = λ x. still-once (o .buffer) x h free (H .once x);
+      one-each = λ t. omega (arith, counted token t os o, still-once (o .token) t (numbers token os) new (H .one-each t));
       size = omega (arith, H .size, length-one-more (older es) e, length-older es);
       fault = H .fault;
     }
 
 enter-task : (set : Settings) (b : Book) (pool : List ℕ) (q : Request) (k : List ℕ) (os : List Owed) (task : Task)
     → Holds k os (b .requests) (b .held) (b .fault) → b .headroom ≡ set .headroom → count (q .buffer) (b .held) ≡ 0
+    → count (q .token) (numbers token os) ≡ 0
     → Holds k (raised os ++ nextOwed (nextOf set pool q task)) (older (b .requests) ++ entryOf (b .headroom) pool q task ∷ []) (q .buffer ∷ b .held) (b .fault)
 unfolding nextOf frameStart
-enter-task set b pool q k os (Task.Tx n c) H head free =
+enter-task set b pool q k os (Task.Tx n c) H head free new =
     one-more k os (b .requests) (b .held) (b .fault) _ _ H
     (record { token = refl; transmit = refl; wants = rw head; age = λ t. omega arith })
     free
-enter-task set b pool q k os Task.Rx H head free =
+    new
+enter-task set b pool q k os Task.Rx H head free new =
     one-more k os (b .requests) (b .held) (b .fault) _ _ H
     (record { token = refl; transmit = refl; wants = refl; age = λ t. omega arith })
     free
+    new
 
 -- a request out of what was asked, of which the first answers are paid
 pub requests : (s : State) (b : Book) (pool : List ℕ) (q : Request) (l : Left) (x : Answers) (rest : List Owed) → Kept s b
-    → bufferHeld s (q .buffer) ≡ false
+    → bufferHeld s (q .buffer) ≡ false → tokenHeld (s .wait) (q .token) ≡ false
     → Pays x (raised (waitOwed (s .wait)) ++ nextOwed (nextOf (s .set) pool q (q .task))) rest
     → Looser rest (waitOwed (Wait.Entering (Transition.Request l (nextOf (s .set) pool q (q .task)))))
     → buffers rest ≡ buffers (waitOwed (Wait.Entering (Transition.Request l (nextOf (s .set) pool q (q .task)))))
     → Kept (stateAt (s .set) (Wait.Entering (Transition.Request l (nextOf (s .set) pool q (q .task))))) (takeAnswers x (enter pool (Call.Request q) b))
-requests s b pool q l x rest K free P L e =
+requests s b pool q l x rest K free new P L e =
     let H = K .holds in
     let none : count (q .buffer) (b .held) ≡ 0 =
     H .same (q .buffer)
     ∙ sym (count-own (s .set) (buffers (waitOwed (s .wait))) (q .buffer))
     ∙ none-there (q .buffer) (own (s .set) ++ buffers (waitOwed (s .wait))) (sym (held-has s (q .buffer)) ∙ free)
     in
-    let entered = enter-task (s .set) b pool q _ (waitOwed (s .wait)) (q .task) H (K .headroom) none in
+    let fresh : count (q .token) (numbers token (waitOwed (s .wait))) ≡ 0 =
+    none-there (q .token) (numbers token (waitOwed (s .wait))) (sym (token-has (s .wait) (q .token)) ∙ new)
+    in
+    let entered = enter-task (s .set) b pool q _ (waitOwed (s .wait)) (q .task) H (K .headroom) none fresh in
     record {
       holds =
           settle _ _ rest _ _ _ _ (pays-keeps x _ _ rest (enter pool (Call.Request q) b) P entered) L
@@ -338,6 +355,12 @@ limits (Wait.Stopping (Stop.Ack a)) = (λ t. omega arith, tt)
 limits (Wait.Stopping (Stop.AckAgain a)) = (λ t. omega arith, tt)
 limits (Wait.Reading q) = (λ t. omega arith, tt)
 
+fits-tokens : (os : List Owed) (es : List Entry) → Fits os es → tokens es ≡ numbers token os
+fits-tokens [] [] F = refl
+fits-tokens [] (e ∷ es) F = absurd F
+fits-tokens (o ∷ os) [] F = absurd F
+fits-tokens (o ∷ os) (e ∷ es) F = rw (F .0 .token, fits-tokens os es (F .1))
+
 pub sound : (s : State) (b : Book) → Kept s b → Sound (record { state = s; book = b })
 sound s b K =
     let H = K .holds in
@@ -347,6 +370,7 @@ sound s b K =
       faultless = H .fault;
       number = H .size;
       different = H .once;
+      one-each = λ t. rw (fits-tokens (waitOwed (s .wait)) (b .requests) (H .requests)) (H .one-each t);
       unanswered = λ t. token-has (s .wait) t ∙ sym (fits-token (waitOwed (s .wait)) (b .requests) t (H .requests));
       holds =
           λ x.

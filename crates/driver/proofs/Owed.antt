@@ -175,6 +175,7 @@ pub record Holds (k : List ℕ) (os : List Owed) (es : List Entry) (h : List ℕ
   pub requests : Fits os es
   pub same : (x : ℕ) → count x h ≡ count x k + count x (buffers os)
   pub once : (x : ℕ) → count x h ≤ 1
+  pub one-each : (t : ℕ) → count t (numbers token os) ≤ 1
   pub size : length h ≡ 2 + length es
   pub fault : f ≡ false
 
@@ -201,6 +202,7 @@ pay-one a k o os (e ∷ es) h f H p q r =
       requests = rw te (H .requests .1);
       same = struck (a .buffer) h R same;
       once = λ y. omega (arith, H .once y, same y, struck (a .buffer) h R same y);
+      one-each = λ t. omega (arith, H .one-each t);
       size = rw te (omega (arith, H .size, shorter (a .buffer) h R same));
       fault = rw (H .fault, te, be, hn);
     }

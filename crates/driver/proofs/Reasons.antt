@@ -15,7 +15,7 @@ every-answer-has-its-reason s pool c = go (moveOf s pool c) (step-legal s pool c
     go m (refuse k e) = tt
     go m (stay w′ x rest R from other P L same) = R
     go m (swap set′ w′ x rest R from other P L same head) = R
-    go m (enters l x rest R from free P L same e) = R
+    go m (enters l x rest R from free new P L same e) = R
 
 pub every-wait-has-its-history : EveryWaitHasItsHistory
 unfolding EveryWaitHasItsHistory stepOf
@@ -25,4 +25,4 @@ every-wait-has-its-history s pool c ok = go (moveOf s pool c) (step-legal s pool
     go m (refuse k e) z = absurd (eqb-false k 0 e z)
     go m (stay w′ x rest R from other P L same) z = from
     go m (swap set′ w′ x rest R from other P L same head) z = from
-    go m (enters l x rest R from free P L same e) z = from
+    go m (enters l x rest R from free new P L same e) z = from

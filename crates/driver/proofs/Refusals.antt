@@ -52,7 +52,7 @@ refused-unchanged s pool c h = go (moveOf s pool c) refl (step-legal s pool c)
     go m e (refuse k n) = record { state = rw e; reply = rw e; pool-bytes = rw e }
     go m e (stay w′ x rest R from other P L same) = absurd (h (rw e))
     go m e (swap set′ w′ x rest R from other P L same head) = absurd (h (rw e))
-    go m e (enters l x rest R from free P L same f) = absurd (h (rw e))
+    go m e (enters l x rest R from free new P L same f) = absurd (h (rw e))
 
 -- ---- The refusal of a guarded move
 guard-zero : (s : State) (k : ℕ) (m : Move) → m .refusal ≡ 0 → guardedOf s k m .refusal ≡ k

@@ -86,7 +86,7 @@ pub data Legal (s : State) (pool : List ℕ) (c : Call) : Move → Type 0 where
       → ((y : ℕ) → count y (own (s .set)) + count y (buffers rest) ≡ count y (own set′) + count y (buffers (waitOwed w′)))
       → s .set .headroom ≡ set′ .headroom → Legal s pool c (moveTo set′ w′ action x k)
   enters : {q : Request} {action : Action} {k : AckSeqNum} (l : Left) (x : Answers) (rest : List Owed) → Reasons s pool c x
-      → LeftFrom s l × NextFrom s pool c (nextOf (s .set) pool q (q .task)) → bufferHeld s (q .buffer) ≡ false → Pays x (raised (waitOwed (s .wait)) ++ nextOwed (nextOf (s .set) pool q (q .task))) rest
+      → LeftFrom s l × NextFrom s pool c (nextOf (s .set) pool q (q .task)) → bufferHeld s (q .buffer) ≡ false → tokenHeld (s .wait) (q .token) ≡ false → Pays x (raised (waitOwed (s .wait)) ++ nextOwed (nextOf (s .set) pool q (q .task))) rest
       → Looser rest (waitOwed (Wait.Entering (Transition.Request l (nextOf (s .set) pool q (q .task)))))
       → buffers rest ≡ buffers (waitOwed (Wait.Entering (Transition.Request l (nextOf (s .set) pool q (q .task)))))
       → c ≡ Call.Request q
@@ -119,12 +119,15 @@ module _ (set : Settings) (pool : List ℕ) where
     N = nextOwed (nextOf set pool q (q .task))
 
     -- refusals 6 to 9 are passed, so the buffer is not held
-    free : (s : State) (a : Asked) → requestRefusal s a q ≡ 0 → bufferHeld s (q .buffer) ≡ false
+    free : (s : State) (a : Asked) → requestRefusal s a q ≡ 0
+        → (bufferHeld s (q .buffer) ≡ false) × (tokenHeld (s .wait) (q .token) ≡ false)
     unfolding requestRefusal
     free s a h =
-        let t = passed (tokenHeld (s .wait) (q .token)) 6 _ (omega arith) h in
-        neither (leb (s .set .count) (q .buffer)) _
-        (passed (leb (s .set .count) (q .buffer) || bufferHeld s (q .buffer)) 7 _ (omega arith) (t .1) .0) .1
+        let t = passed (tokenHeld (s .wait) (q .token)) 6 _ (omega arith) h in (
+          neither (leb (s .set .count) (q .buffer)) _
+              (passed (leb (s .set .count) (q .buffer) || bufferHeld s (q .buffer)) 7 _ (omega arith) (t .1) .0) .1,
+          t .0,
+        )
 
     -- the request's number is noted from the pool
     noted-at : (s : State) (task : Task) → NextFrom s pool (Call.Request q) (nextOf (s .set) pool q task)
@@ -139,26 +142,27 @@ module _ (set : Settings) (pool : List ℕ) where
         noted : (a : Asked) → NextFrom (stateAt set (Wait.Asking a)) pool (Call.Request q) (nextOf set pool q (q .task))
         noted a = noted-at (stateAt set (Wait.Asking a)) (q .task)
 
-        go : (a : Asked) → bufferHeld (stateAt set (Wait.Asking a)) (q .buffer) ≡ false
+        go : (a : Asked)
+            → (bufferHeld (stateAt set (Wait.Asking a)) (q .buffer) ≡ false) × (tokenHeld (Wait.Asking a) (q .token) ≡ false)
             → Legal (stateAt set (Wait.Asking a)) pool (Call.Request q)
             (acceptedOf set (Wait.Entering (Transition.Request (departureOf set a .left) (nextOf set pool q (q .task))))
             (requestAction q (departureOf set a .spacing) (q .task))
             (departureOf set a .answers))
-        go Asked.Idle f = enters Left.Off Answers.None N tt (tt, noted Asked.Idle) f refl (looser-refl N) refl refl
+        go Asked.Idle f = enters Left.Off Answers.None N tt (tt, noted Asked.Idle) (f .0) (f .1) refl (looser-refl N) refl refl
         go (Asked.AfterWindow p) f =
-            enters Left.Off (departureOf set (Asked.AfterWindow p) .answers) N (listening-ended p refl) (tt, noted (Asked.AfterWindow p)) f (paid refl refl refl, refl) (looser-refl N) refl refl
+            enters Left.Off (departureOf set (Asked.AfterWindow p) .answers) N (listening-ended p refl) (tt, noted (Asked.AfterWindow p)) (f .0) (f .1) (paid refl refl refl, refl) (looser-refl N) refl refl
         go (Asked.AfterAckWindow p t) f =
-            enters Left.Off (departureOf set (Asked.AfterAckWindow p t) .answers) N (window-ended p t refl) (tt, noted (Asked.AfterAckWindow p t)) f (paid refl refl refl, refl) (looser-refl N) refl refl
+            enters Left.Off (departureOf set (Asked.AfterAckWindow p t) .answers) N (window-ended p t refl) (tt, noted (Asked.AfterAckWindow p t)) (f .0) (f .1) (paid refl refl refl, refl) (looser-refl N) refl refl
         go (Asked.Receiving p i) f =
-            enters (Left.Receiving p) Answers.None _ tt (tt, noted (Asked.Receiving p i)) f refl (rx-later p p refl, looser-refl N)
+            enters (Left.Receiving p) Answers.None _ tt (tt, noted (Asked.Receiving p i)) (f .0) (f .1) refl (rx-later p p refl, looser-refl N)
             refl refl
         go (Asked.Sending p) f =
-            enters (Left.Sending p) Answers.None _ tt (refl, noted (Asked.Sending p)) f refl (tx-later p false 1 2 (omega arith), looser-refl N)
+            enters (Left.Sending p) Answers.None _ tt (refl, noted (Asked.Sending p)) (f .0) (f .1) refl (tx-later p false 1 2 (omega arith), looser-refl N)
             refl refl
         go (Asked.SendingAck i) f =
-            enters Left.SendingAck Answers.None N tt (tt, noted (Asked.SendingAck i)) f refl (looser-refl N) refl refl
+            enters Left.SendingAck Answers.None N tt (tt, noted (Asked.SendingAck i)) (f .0) (f .1) refl (looser-refl N) refl refl
         go (Asked.ReceivingAck a) f =
-            enters (Left.ReceivingAck a) Answers.None _ tt (refl, noted (Asked.ReceivingAck a)) f refl (tx-later (a .task) true 4 5 (omega arith), looser-refl N)
+            enters (Left.ReceivingAck a) Answers.None _ tt (refl, noted (Asked.ReceivingAck a)) (f .0) (f .1) refl (tx-later (a .task) true 4 5 (omega arith), looser-refl N)
             refl refl
 
   none-legal : (a : Asked) → Legal (stateAt set (Wait.Asking a)) pool Call.None (noneOf (stateAt set (Wait.Asking a)) a)

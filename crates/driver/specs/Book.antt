@@ -178,6 +178,11 @@ abbrev pub InTime : List Entry → Type 0
 InTime [] = Unit {0}
 InTime (e ∷ es) = (e .transmit ≡ true → e .age < callsAllowed (e .wants)) × InTime es
 
+-- the tokens of the unanswered requests
+abbrev pub tokens : List Entry → List ℕ
+tokens [] = []
+tokens (e ∷ es) = e .token ∷ tokens es
+
 -- what holds after every call
 pub record Sound (m : Moment) : Type 0 where
   pub answered : InTime (m .book .requests)
@@ -187,6 +192,8 @@ pub record Sound (m : Moment) : Type 0 where
   -- "those held number exactly the service's two plus one for each unanswered request, all different"
   pub number : length (m .book .held) ≡ 2 + length (m .book .requests)
   pub different : (x : ℕ) → count x (m .book .held) ≤ 1
+  -- no two unanswered requests have one token, so that an answer's token names one of them
+  pub one-each : (t : ℕ) → count t (tokens (m .book .requests)) ≤ 1
   -- "What 6 calls unanswered and 7 calls held is, at each call of the list, what the book says before it."
   pub unanswered : (t : ℕ) → tokenHeld (m .state .wait) t ≡ hasToken t (m .book .requests)
   pub holds : (x : ℕ) → bufferHeld (m .state) x ≡ hasNumber x (m .book .held)

@@ -3,9 +3,8 @@
 use Prim.Native.Nat.{ℕ}
 use mathlib.Core.Bool.{Bool, true, false}
 use mathlib.Core.List.{List}
-use lib.ListN.{take, drop}
 use Rattle.radio_frame.specs.declared.Settings.{Settings}
-use Rattle.radio_frame.specs.RadioFrame.{frameStart, sduLength, ackSeqNumOf}
+use Rattle.radio_frame.specs.RadioFrame.{frameHead, sduLength, ackSeqNumOf}
 use Rattle.phy.specs.Spacing.{ifsOf}
 use Rattle.tasks.specs.declared.Action.{Action}
 use Rattle.tasks.specs.declared.Answers.{Answers}
@@ -57,10 +56,6 @@ departureOf set (Asked.Sending q) = leaving Answers.None (Left.Sending q) (txSpa
 -- after an ACK turn: the spacing of the received data frame, not of the ACK
 departureOf set (Asked.SendingAck i) = leaving Answers.None Left.SendingAck (Spacing.After i)
 departureOf set (Asked.ReceivingAck a) = leaving Answers.None (Left.ReceivingAck a) (txSpacing set (a .task))
-
--- the first three bytes of a buffer's frame
-abbrev pub frameHead : Settings → List ℕ → ℕ → List ℕ
-frameHead set pool buffer = take 3 (drop (frameStart set buffer) pool)
 
 -- "A Tx frame wants an ACK if its control at acceptance has bit 5 and its number is not suppressed; that number .. is noted."
 unfoldable pub nextOf : Settings → List ℕ → Request → Task → Next

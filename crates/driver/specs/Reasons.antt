@@ -7,10 +7,9 @@ use mathlib.Core.Path.{_≡_}
 use mathlib.Core.Bool.{Bool, true, false}
 use mathlib.Core.Logic.{_⊎_}
 use mathlib.Core.List.{List}
-use lib.ListN.{take, drop}
 use Rattle.radio_frame.specs.declared.Settings.{Settings}
 use Rattle.radio_frame.specs.declared.AckSeqNum.{AckSeqNum}
-use Rattle.radio_frame.specs.RadioFrame.{frameStart, ackSeqNumOf}
+use Rattle.radio_frame.specs.RadioFrame.{frameHead, ackSeqNumOf}
 use Rattle.phy.specs.declared.Ifs.{Ifs}
 use Rattle.ack.specs.Ack.{acknowledges}
 use Rattle.tasks.specs.declared.Answer.{Answer}
@@ -48,7 +47,7 @@ Tells Call.Rollback r = ⊥
 
 -- "the received frame is 3 bytes, (control & EFFF) = 0002 hexadecimal, and the third byte is the number noted at acceptance"
 abbrev pub isAck : Settings → List ℕ → AwaitedAck → RxResult → Bool
-isAck set pool a (RxResult.Frame len t) = acknowledges (take 3 (drop (frameStart set (set .«spare_buffer»)) pool)) len (a .number)
+isAck set pool a (RxResult.Frame len t) = acknowledges (frameHead set pool (set .«spare_buffer»)) len (a .number)
 isAck set pool a RxResult.RxWindowEnded = false
 isAck set pool a (RxResult.CrcError t) = false
 
@@ -115,7 +114,7 @@ pub record Accepted (s : State) (pool : List ℕ) (c : Call) (q : TxTask) (k : A
   pub call : c ≡ Call.Request request
   pub token : q .token ≡ request .token
   pub buffer : q .buffer ≡ request .buffer
-  pub noted : k ≡ ackSeqNumOf (take 3 (drop (frameStart (s .set) (request .buffer)) pool))
+  pub noted : k ≡ ackSeqNumOf (frameHead (s .set) pool (request .buffer))
 
 abbrev pub LeftFrom : State → Left → Type 0
 LeftFrom s Left.Off = Unit {0}

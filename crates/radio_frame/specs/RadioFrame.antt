@@ -5,7 +5,7 @@ use mathlib.Core.Bool.{Bool, cond, not, _&&_}
 use mathlib.Core.List.{List}
 use mathlib.Core.Path.{_≡_}
 use lib.Dec.{ltb}
-use lib.ListN.{getD}
+use lib.ListN.{getD, take, drop}
 use Rattle.frame_control.specs.declared.FrameControl.{FrameControl}
 use Rattle.frame_control.specs.FrameControl.{frameControlOf}
 use Rattle.radio_frame.specs.declared.Settings.{Settings}
@@ -21,6 +21,10 @@ bufferStart buffer = 144 * buffer
 -- "A frame begins H bytes into its buffer."
 unfoldable pub frameStart : Settings → ℕ → ℕ
 frameStart s buffer = bufferStart buffer + s .headroom
+
+-- the first three bytes of a buffer's frame: control and the sequence number
+abbrev pub frameHead : Settings → List ℕ → ℕ → List ℕ
+frameHead s pool buffer = take 3 (drop (frameStart s buffer) pool)
 
 -- the length with checksum, at most 65,535
 unfoldable pub sduLength : Settings → ℕ → ℕ

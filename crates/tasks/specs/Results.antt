@@ -4,9 +4,8 @@ use Prim.Native.Nat.{ℕ, _+_}
 use mathlib.Core.Bool.{Bool, false, cond, _||_}
 use mathlib.Core.List.{List}
 use lib.Dec.{ltb, eqb}
-use lib.ListN.{take, drop}
 use Rattle.radio_frame.specs.declared.Settings.{Settings}
-use Rattle.radio_frame.specs.RadioFrame.{frameStart}
+use Rattle.radio_frame.specs.RadioFrame.{frameHead}
 use Rattle.ack.specs.Ack.{acknowledges}
 use Rattle.tasks.specs.declared.RxResult.{RxResult}
 use Rattle.tasks.specs.declared.TaskResult.{TaskResult}
@@ -66,7 +65,7 @@ leaveSendingAck (TaskResult.Rx r) = unfitResult
 -- "Sent for such a frame exactly if, after frame started, the received frame is 3 bytes, .." It stands in the spare buffer.
 unfoldable pub ackResponse : Settings → List ℕ → AwaitedAck → ℕ → Response
 ackResponse set pool a length =
-    cond (acknowledges (take 3 (drop (frameStart set (set .«spare_buffer»)) pool)) length (a .number))
+    cond (acknowledges (frameHead set pool (set .«spare_buffer»)) length (a .number))
     (Response.Sent (a .time))
     (Response.Nack (a .time))
 

@@ -23,7 +23,7 @@ use Rattle.driver.proofs.Kept.{Kept, After, stateAt, moved, stays, requ
 use Rattle.driver.proofs.Table.{Legal, refuse, stay, swap, enters, passed, neither, step-legal}
 
 -- ---- Every call, and every list of them
-step-keeps : (s : State) (b : Book) (pool : List ℕ) (c : Call) → Kept s b → After b pool c (moveOf s pool c)
+pub step-keeps : (s : State) (b : Book) (pool : List ℕ) (c : Call) → Kept s b → After b pool c (moveOf s pool c)
 unfolding bookStep
 step-keeps s b pool c K = go (moveOf s pool c) (step-legal s pool c)
   where
@@ -39,7 +39,7 @@ kept-after [] m K = K
 kept-after (t ∷ ts) m K = kept-after ts (turn m t) (step-keeps (m .state) (m .book) (t .pool) (t .call) K)
 
 -- ---- Start
-own-differ : (set : Settings) (n : ℕ) → settingsRefusal set n ≡ 0 → eqb (set .«ack_buffer») (set .«spare_buffer») ≡ false
+pub own-differ : (set : Settings) (n : ℕ) → settingsRefusal set n ≡ 0 → eqb (set .«ack_buffer») (set .«spare_buffer») ≡ false
 unfolding settingsRefusal ownBuffersUnfit
 own-differ set n h =
     let p = passed (poolUnfit set n) 2 _ (omega arith) h in
@@ -47,7 +47,7 @@ own-differ set n h =
     let o = passed (ownBuffersUnfit set) 4 _ (omega arith) (q .1) in
     neither (eqb (set .«ack_buffer») (set .«spare_buffer»)) _ (o .0) .0
 
-started : (set : Settings) → eqb (set .«ack_buffer») (set .«spare_buffer») ≡ false → Kept (stateAt set (Wait.Asking Asked.Idle)) (startBook set)
+pub started : (set : Settings) → eqb (set .«ack_buffer») (set .«spare_buffer») ≡ false → Kept (stateAt set (Wait.Asking Asked.Idle)) (startBook set)
 started set differ =
     record {
       holds =
@@ -65,7 +65,7 @@ started set differ =
     other : eqb (set .«spare_buffer») (set .«ack_buffer») ≡ false
     other = ne-eqb (set .«spare_buffer») (set .«ack_buffer») (λ e. eqb-false (set .«ack_buffer») (set .«spare_buffer») differ (sym e))
 
-accepted-start : (set : Settings) (pool : List ℕ) → startOf set pool .refusal ≡ 0
+pub accepted-start : (set : Settings) (pool : List ℕ) → startOf set pool .refusal ≡ 0
     → (startOf set pool .state ≡ stateAt set (Wait.Asking Asked.Idle)) × (settingsRefusal set (length pool) ≡ 0)
 unfolding startOf guardedOf
 accepted-start set pool h = go (eqb (settingsRefusal set (length pool)) 0) refl

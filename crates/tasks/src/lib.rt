@@ -291,7 +291,7 @@ fn transition_slots(e: Transition) -> Pending
 }
 
 // The unanswered requests of a wait.
-fn pending_requests(w: Wait) -> Pending
+pub fn pending_requests(w: Wait) -> Pending
     ensures { λ r. ⌜ r ≡ pendingOf w ⌝ }
 {
     match w {

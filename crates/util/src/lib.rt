@@ -2,6 +2,7 @@
 ghost use mathlib.Core.Path.{_≡_};
 ghost use mathlib.Core.Bool.{_&&_, _||_};
 ghost use lib.ListN.{getD, set, take, drop};
+ghost use Rattle.util.specs.Bytes.{bytesOf};
 
 pub fn both(a: bool, b: bool) -> bool
     ensures { λ r. ⌜ r ≡ (a && b) ⌝ }
@@ -43,4 +44,37 @@ pub fn part(s: &[u8], at: usize, n: usize) -> &[u8]
     }
     let end = at + n;
     &s[at..end]
+}
+
+// The bytes of a number, the low one first.
+pub fn bytes_of_u16(v: u16) -> [u8; 2]
+    ensures { λ r. ⌜ r ≡ bytesOf 2 v ⌝ }
+{
+    [(v % 256) as u8, (v / 256 % 256) as u8]
+}
+
+pub fn bytes_of_u32(v: u32) -> [u8; 4]
+    ensures { λ r. ⌜ r ≡ bytesOf 4 v ⌝ }
+{
+    [
+        (v % 256) as u8,
+        (v / 256 % 256) as u8,
+        (v / 256 / 256 % 256) as u8,
+        (v / 256 / 256 / 256 % 256) as u8,
+    ]
+}
+
+pub fn bytes_of_u64(v: u64) -> [u8; 8]
+    ensures { λ r. ⌜ r ≡ bytesOf 8 v ⌝ }
+{
+    [
+        (v % 256) as u8,
+        (v / 256 % 256) as u8,
+        (v / 256 / 256 % 256) as u8,
+        (v / 256 / 256 / 256 % 256) as u8,
+        (v / 256 / 256 / 256 / 256 % 256) as u8,
+        (v / 256 / 256 / 256 / 256 / 256 % 256) as u8,
+        (v / 256 / 256 / 256 / 256 / 256 / 256 % 256) as u8,
+        (v / 256 / 256 / 256 / 256 / 256 / 256 / 256 % 256) as u8,
+    ]
 }

@@ -1,0 +1,247 @@
+-- The whole list in the exported form: after every list of exported calls the state slice holds a valid state, and the book that
+-- is kept from the numbers and the reply's bytes is sound.
+-- Assumes nothing.
+use Prim.Native.Nat.{ℕ, _^_, _<_}
+use mathlib.Core.Path.{_≡_, refl, sym, _∙_, ap}
+use mathlib.Core.Bool.{Bool, true, false, cond, _&&_}
+use mathlib.Core.List.{List, [], _∷_}
+use lib.Dec.{eqb, ltb}
+use lib.ListN.{length}
+use native.Mathlib.Omega.{arith}
+use borrow.Author.Tests.{eq-eqb, eqb-true, eqb-false}
+use Rattle.util.specs.Bytes.{AllBytes}
+use Rattle.radio_frame.specs.declared.Settings.{Settings}
+use Rattle.radio_frame.specs.Settings.{settingsRefusal}
+use Rattle.radio_frame.proofs.Laws.{zero-if-fit}
+use Rattle.tasks.specs.declared.Asked.{Asked}
+use Rattle.tasks.specs.declared.Answers.{Answers}
+use Rattle.tasks.specs.declared.Call.{Call}
+use Rattle.tasks.specs.declared.Cause.{Cause}
+use Rattle.tasks.specs.declared.Reply.{Reply}
+use Rattle.tasks.specs.declared.State.{State}
+use Rattle.tasks.specs.declared.TaskResult.{TaskResult}
+use Rattle.tasks.specs.declared.Wait.{Wait}
+use Rattle.driver.specs.declared.Outcome.{Outcome}
+use Rattle.driver.specs.Step.{moveOf, stepOf, startOf}
+use Rattle.driver.specs.Book.{Book, bookStep, startBook, Sound}
+use Rattle.driver.proofs.Kept.{Kept, sound}
+use Rattle.driver.proofs.History.{step-keeps, own-differ, started, accepted-start}
+use Rattle.state_bytes.specs.Layout.{stateAt, writtenState}
+use Rattle.state_bytes.specs.Parts.{waitParts, askedPart}
+use Rattle.state_bytes.specs.Valid.{accepted}
+use Rattle.state_bytes.proofs.Picked.{picked}
+use Rattle.state_bytes.proofs.RoundTrip.{reads-back, accepts}
+use Rattle.reply_bytes.specs.Reply.{answersAt, writtenReply, CauseFits}
+use Rattle.reply_bytes.proofs.ReadBack.{answers-read-back}
+use Rattle.driver_c.specs.declared.ExportedCall.{ExportedCall}
+use Rattle.driver_c.specs.declared.StartNumbers.{StartNumbers}
+use Rattle.driver_c.specs.Codes.{resultTable, resultAt, causeTable, causeAt, knownOf, callOf, settingsOf}
+use Rattle.driver_c.specs.Calls.{lengthsFit, formOk, orFive, unknownOf, madeOutcome, ifAccepted, callResult, callState, callReply, unknownStart, begunOutcome, startResult, startState}
+use Rattle.driver_c.specs.Lists.{replyAt, ByteTurn, ByteMoment, byteTurn, afterBytes, NumbersFit, TurnsFit, StartFits, ByteSound, AlwaysByteSound}
+use Rattle.driver_c.proofs.Slices.{state-length}
+use Rattle.driver_c.proofs.Ranges.{ResultIn, CallIn, SettingsIn, StateIn, MoveIn, step-in}
+use Rattle.driver_c.proofs.Apart.{valid, fits}
+
+-- ---- The numbers of an exported call are in range as the engine's
+result-in : (length time code : ℕ) → time < 2 ^ 64 → ResultIn (resultAt length time code)
+unfolding resultAt
+result-in length time code t =
+    picked (λ (r : TaskResult). ResultIn r) (resultTable length time) _ code (tt, (t, (t, (tt, tt)))) t
+
+cause-in : (time code : ℕ) → time < 2 ^ 64 → CauseFits (causeAt time code)
+unfolding causeAt
+cause-in time code t = picked (λ (x : Cause). CauseFits x) (causeTable time) Cause.Task code (tt, (t, tt)) tt
+
+call-in : (x : ExportedCall) → NumbersFit x → CallIn (callOf x)
+unfolding callOf
+call-in (ExportedCall.Request token direction start time buffer length cca) N = N .0
+call-in ExportedCall.None N = tt
+call-in ExportedCall.FrameStart N = tt
+call-in (ExportedCall.OutboundSeen start time cca) N = tt
+call-in (ExportedCall.Stopped outcome length time) N = tt
+call-in (ExportedCall.Header arrived length) N = tt
+call-in (ExportedCall.Entered result length time entry) N = result-in length time result (N .1)
+call-in (ExportedCall.Fallback result length time cause causeTime) N = (result-in length time result (N .1), cause-in causeTime cause (N .2))
+call-in ExportedCall.Rollback N = tt
+
+-- ---- What every call keeps
+record Inv (m : ByteMoment) : Type 0 where
+  engine : State
+  written : m .state ≡ writtenState engine
+  inside : StateIn engine
+  kept : Kept engine (m .book)
+
+-- a refused call leaves state slice and book
+left-alone : (m : ByteMoment) (t : ByteTurn) → eqb (callResult (m .state) (t .reply) (t .pool) (t .call)) 0 ≡ false → byteTurn m t ≡ m
+unfolding byteTurn callState bookStep
+left-alone m t e = rw e
+
+five-or-more : (k : ℕ) → orFive k ≡ 0 → ⊥
+five-or-more k = go (eqb k 0) refl
+  where
+    go : (t : Bool) → eqb k 0 ≡ t → cond (eqb k 0) 5 k ≡ 0 → ⊥
+    go true e h = let z : _≡_ {A = ℕ} 5 0 = rw e at h in absurd (omega arith)
+    go false e h = eqb-false k 0 e (rw e at h)
+
+-- an accepted call has a form that is right and codes that stand for something
+right-form : (st re po : List ℕ) (x : ExportedCall) → callResult st re po x ≡ 0 → formOk st (length re) ≡ true
+unfolding callResult
+right-form st re po x h = go (formOk st (length re)) refl
+  where
+    go : (t : Bool) → formOk st (length re) ≡ t → formOk st (length re) ≡ true
+    go true e = e
+    go false e = let z : _≡_ {A = ℕ} 1 0 = rw e at h in absurd (omega arith)
+
+right-code : (s : State) (po : List ℕ) (x : ExportedCall) → madeOutcome s po x .refusal ≡ 0 → knownOf x ≡ true
+unfolding madeOutcome unknownOf
+right-code s po x h = go (knownOf x) refl
+  where
+    go : (t : Bool) → knownOf x ≡ t → knownOf x ≡ true
+    go true e = e
+    go false e = absurd (five-or-more (settingsRefusal (s .set) (length po)) (rw e at h))
+
+-- the book takes the same answers from the reply and from its bytes
+same-book : (b : Book) (po : List ℕ) (c : Call) (k : ℕ) (r : Reply) → answersAt (writtenReply r) ≡ r .answers
+    → bookStep b po c k (replyAt (writtenReply r)) ≡ bookStep b po c k r
+unfolding bookStep
+same-book b po c k r e = rw e
+
+module _ (s : State) (b : Book) (re po : List ℕ) (x : ExportedCall) (S : StateIn s) (K : Kept s b) (N : NumbersFit x) (A : AllBytes po) (h : callResult (writtenState s) re po x ≡ 0) where
+  form : formOk (writtenState s) (length re) ≡ true
+  form = right-form (writtenState s) re po x h
+
+  made : callResult (writtenState s) re po x ≡ madeOutcome s po x .refusal
+  unfolding callResult
+  made = simp (form, reads-back s (fits s S))
+
+  known : knownOf x ≡ true
+  known = right-code s po x (sym made ∙ h)
+
+  outcome : madeOutcome (stateAt (writtenState s)) po x ≡ stepOf s po (callOf x)
+  unfolding madeOutcome
+  outcome = simp (reads-back s (fits s S), known)
+
+  moves : MoveIn (moveOf s po (callOf x))
+  moves = step-in s po (callOf x) S A (call-in x N)
+
+  next-state : callState (writtenState s) re po x ≡ writtenState (stepOf s po (callOf x) .state)
+  unfolding callState
+  next-state = simp (h, outcome)
+
+  next-reply : callReply (writtenState s) re po x ≡ writtenReply (stepOf s po (callOf x) .reply)
+  unfolding callReply
+  next-reply = simp (h, outcome)
+
+  refusal : callResult (writtenState s) re po x ≡ stepOf s po (callOf x) .refusal
+  unfolding callResult
+  refusal = simp (form, outcome)
+
+  next-book : bookStep b po (callOf x) (callResult (writtenState s) re po x) (replyAt (callReply (writtenState s) re po x))
+      ≡ bookStep b po (callOf x) (stepOf s po (callOf x) .refusal) (stepOf s po (callOf x) .reply)
+  unfolding stepOf
+  next-book = rw (next-reply, refusal) (same-book b po (callOf x) _ (stepOf s po (callOf x) .reply) (answers-read-back (stepOf s po (callOf x) .reply) (moves .answers)))
+
+  keeps : Inv (record { state = callState (writtenState s) re po x; book = bookStep b po (callOf x) (callResult (writtenState s) re po x) (replyAt (callReply (writtenState s) re po x)) })
+  unfolding stepOf
+  keeps =
+      record {
+        engine = stepOf s po (callOf x) .state;
+        written = next-state;
+        inside = moves .state;
+        kept = rw next-book (step-keeps s b po (callOf x) K);
+      }
+
+turn-keeps : (m : ByteMoment) (t : ByteTurn) → Inv m → NumbersFit (t .call) → AllBytes (t .pool) → Inv (byteTurn m t)
+unfolding byteTurn
+turn-keeps m t I N A = go (eqb (callResult (m .state) (t .reply) (t .pool) (t .call)) 0) refl
+  where
+    go : (f : Bool) → eqb (callResult (m .state) (t .reply) (t .pool) (t .call)) 0 ≡ f → Inv (byteTurn m t)
+    go true e = rw (I .written) (keeps (I .engine) (m .book) (t .reply) (t .pool) (t .call) (I .inside) (I .kept) N A (rw (I .written) at (eqb-true (callResult (m .state) (t .reply) (t .pool) (t .call)) 0 e)))
+    go false e = rw (left-alone m t e) I
+
+list-keeps : (ts : List ByteTurn) (m : ByteMoment) → Inv m → TurnsFit ts → Inv (afterBytes m ts)
+unfolding afterBytes
+list-keeps [] m I F = I
+list-keeps (t ∷ ts) m I F = list-keeps ts (byteTurn m t) (turn-keeps m t I (F .0 .0) (F .0 .1)) (F .1)
+
+-- ---- The claims follow
+byte-sound : (m : ByteMoment) → Inv m → ByteSound m
+unfolding formOk lengthsFit
+byte-sound m I =
+    let s = I .engine in
+    record {
+      valid = rw (I .written) (simp (state-length s, accepts s (fits s (I .inside)) (valid s (m .book) (I .inside) (I .kept))));
+      sound = rw (I .written, reads-back s (fits s (I .inside))) (sound s (m .book) (I .kept));
+    }
+
+-- ---- Start
+settings-in : (n : StartNumbers) (pool : ℕ) → StartFits n → settingsRefusal (settingsOf n) pool ≡ 0 → SettingsIn (settingsOf n)
+unfolding settingsOf
+settings-in n pool F h =
+    let fit = zero-if-fit (settingsOf n) pool .0 h in
+    record {
+      low = fit .low;
+      high = fit .high;
+      headroom = fit .headroom;
+      tailroom = fit .tailroom;
+      fcs = fit .fcs;
+      address = F .address;
+      pan = F .pan;
+      ack = fit .ack;
+      spare = fit .spare;
+    }
+
+two-or-three : (t : Bool) → _≡_ {A = ℕ} (cond t 2 3) 0 → ⊥
+two-or-three true h = absurd (omega arith)
+two-or-three false h = absurd (omega arith)
+
+module _ (n : StartNumbers) (st re po : List ℕ) (h : startResult n st re po ≡ 0) where
+  start-form : lengthsFit (length st) (length re) ≡ true
+  unfolding startResult
+  start-form = go (lengthsFit (length st) (length re)) refl
+    where
+      go : (t : Bool) → lengthsFit (length st) (length re) ≡ t → lengthsFit (length st) (length re) ≡ true
+      go true e = e
+      go false e = let z : _≡_ {A = ℕ} 1 0 = rw e at h in absurd (omega arith)
+
+  begun : begunOutcome n po .refusal ≡ 0
+  unfolding startResult
+  begun = rw start-form at h
+
+  start-code : ltb (n .«implicit_broadcast») 2 ≡ true
+  unfolding begunOutcome unknownStart
+  start-code = go (ltb (n .«implicit_broadcast») 2) refl
+    where
+      go : (t : Bool) → ltb (n .«implicit_broadcast») 2 ≡ t → ltb (n .«implicit_broadcast») 2 ≡ true
+      go true e = e
+      go false e = absurd (two-or-three (eqb (settingsRefusal (settingsOf n) (length po)) 2) (rw e at begun))
+
+  start-outcome : begunOutcome n po ≡ startOf (settingsOf n) po
+  unfolding begunOutcome
+  start-outcome = simp start-code
+
+  start-keeps : StartFits n → Inv (record { state = startState n st re po; book = startBook (settingsOf n) })
+  unfolding startState waitParts askedPart
+  start-keeps F =
+      let set = settingsOf n in
+      let begin = accepted-start set po (rw start-outcome at begun) in
+      let S = settings-in n (length po) F (begin .1) in
+      let w : StateIn (record { set = set; wait = Wait.Asking Asked.Idle }) =
+      record {
+        set = S;
+        wait = (
+          (omega arith, omega (arith, S .low), omega arith, omega arith, omega arith),
+          (omega arith, omega (arith, S .low), omega arith, omega arith, omega arith),
+        );
+      } in
+      record {
+        engine = record { set = set; wait = Wait.Asking Asked.Idle };
+        written = simp (h, start-outcome, begin .0);
+        inside = w;
+        kept = started set (own-differ set (length po) (begin .1));
+      }
+
+-- THE THIRD DEMAND in the exported form
+pub always-byte-sound : (n : StartNumbers) (st re po : List ℕ) → AlwaysByteSound n (startResult n st re po) (startState n st re po)
+unfolding AlwaysByteSound
+always-byte-sound n st re po F h ts T = byte-sound _ (list-keeps ts _ (start-keeps n st re po h F) T)

@@ -1,0 +1,5 @@
+pub mod Codes
+pub mod Slices
+pub mod Ranges
+pub mod Apart
+pub mod History

@@ -1,0 +1,131 @@
+-- What an exported call returns, and every byte of the three slices after it: document 01, "Refusals, in checking order".
+-- Assumes nothing.
+use Prim.Native.Nat.{ℕ}
+use mathlib.Core.Path.{_≡_}
+use mathlib.Core.Bool.{Bool, cond, not, _&&_}
+use mathlib.Core.List.{List}
+use lib.Dec.{ltb, eqb}
+use lib.ListN.{length}
+use Rattle.radio_frame.specs.declared.Settings.{Settings}
+use Rattle.radio_frame.specs.Settings.{settingsRefusal}
+use Rattle.tasks.specs.declared.Action.{Action}
+use Rattle.tasks.specs.declared.Answers.{Answers}
+use Rattle.tasks.specs.declared.Asked.{Asked}
+use Rattle.tasks.specs.declared.State.{State}
+use Rattle.tasks.specs.declared.Wait.{Wait}
+use Rattle.driver.specs.declared.Outcome.{Outcome}
+use Rattle.driver.specs.Step.{stepOf, stepPool, startOf, startPool}
+use Rattle.driver.specs.Refusals.{refusalOf}
+use Rattle.state_bytes.specs.declared.Decoded.{Decoded}
+use Rattle.state_bytes.specs.Layout.{stateAt, writtenState}
+use Rattle.state_bytes.specs.Valid.{accepted, decodedOf}
+use Rattle.reply_bytes.specs.Reply.{writtenReply}
+use Rattle.driver_c.specs.declared.ExportedCall.{ExportedCall}
+use Rattle.driver_c.specs.declared.StartNumbers.{StartNumbers}
+use Rattle.driver_c.specs.Codes.{knownOf, callOf, settingsOf}
+
+-- ---- Refusal 1
+
+-- "the state slice is not 64 bytes, the reply slice not 48": of the slices' lengths
+unfoldable pub lengthsFit : ℕ → ℕ → Bool
+lengthsFit state reply = eqb state 64 && eqb reply 48
+
+-- ".. or (except at start) the state bytes are not what some state .. is written as"
+unfoldable pub formOk : List ℕ → ℕ → Bool
+formOk st reply = lengthsFit (length st) reply && accepted st
+
+unfoldable pub readOf : List ℕ → ℕ → Decoded
+readOf st reply = cond (lengthsFit (length st) reply) (decodedOf st) Decoded.Invalid
+
+-- ---- The engine's outcome
+
+-- "A refusal returns its number, no action and no answer"
+abbrev pub refusedAs : State → ℕ → Outcome
+refusedAs s refusal = record { refusal = refusal; state = s; reply = record { action = Action.Nothing; answers = Answers.None } }
+
+-- "5. .. in the exported form also a code that stands for nothing": after 2 to 4
+abbrev pub orFive : ℕ → ℕ
+orFive refusal = cond (eqb refusal 0) 5 refusal
+
+unfoldable pub unknownOf : State → ℕ → Outcome
+unknownOf s pool = refusedAs s (orFive (settingsRefusal (s .set) pool))
+
+unfoldable pub madeOutcome : State → List ℕ → ExportedCall → Outcome
+madeOutcome s po x = cond (knownOf x) (stepOf s po (callOf x)) (unknownOf s (length po))
+
+unfoldable pub madePool : State → List ℕ → ExportedCall → List ℕ
+madePool s po x = cond (knownOf x) (stepPool s po (callOf x)) po
+
+-- the refusals in checking order: 1, then 2 to 4, then 5 for a code that stands for nothing, then the engine's
+unfoldable pub exportedRefusal : List ℕ → List ℕ → List ℕ → ExportedCall → ℕ
+exportedRefusal st re po x =
+    cond (not (formOk st (length re))) 1
+    (cond (knownOf x) (refusalOf (stateAt st) po (callOf x)) (orFive (settingsRefusal (stateAt st .set) (length po))))
+
+-- ---- Writing
+
+-- new bytes over old ones that are as many
+unfoldable pub copiedOver : Bool → List ℕ → List ℕ → List ℕ
+copiedOver flag new old = cond (flag && eqb (length new) (length old)) new old
+
+-- what is written for an outcome
+pub record Finished (o : Outcome) (st re : List ℕ) (r : ℕ) (st′ re′ : List ℕ) : Type 0 where
+  pub result : r ≡ o .refusal
+  pub state : st′ ≡ copiedOver (eqb (o .refusal) 0) (writtenState (o .state)) st
+  pub reply : re′ ≡ copiedOver (eqb (o .refusal) 0) (writtenReply (o .reply)) re
+
+-- the new bytes of a slice where the call is accepted, the old ones where it is refused
+abbrev pub ifAccepted : ℕ → List ℕ → List ℕ → List ℕ
+ifAccepted refusal new old = cond (eqb refusal 0) new old
+
+-- ---- A call: the engine's, between reading and writing
+
+unfoldable pub callResult : List ℕ → List ℕ → List ℕ → ExportedCall → ℕ
+callResult st re po x = cond (formOk st (length re)) (madeOutcome (stateAt st) po x .refusal) 1
+
+unfoldable pub callState : List ℕ → List ℕ → List ℕ → ExportedCall → List ℕ
+callState st re po x = ifAccepted (callResult st re po x) (writtenState (madeOutcome (stateAt st) po x .state)) st
+
+unfoldable pub callReply : List ℕ → List ℕ → List ℕ → ExportedCall → List ℕ
+callReply st re po x = ifAccepted (callResult st re po x) (writtenReply (madeOutcome (stateAt st) po x .reply)) re
+
+unfoldable pub callPool : List ℕ → List ℕ → List ℕ → ExportedCall → List ℕ
+callPool st re po x = ifAccepted (callResult st re po x) (madePool (stateAt st) po x) po
+
+-- the promise of an exported call: of the state, reply and pool slices and the numbers at entry, the returned number and the slices
+-- at exit
+pub record Called (st re po : List ℕ) (x : ExportedCall) (r : ℕ) (st′ re′ po′ : List ℕ) : Type 0 where
+  pub result : r ≡ callResult st re po x
+  pub state : st′ ≡ callState st re po x
+  pub reply : re′ ≡ callReply st re po x
+  pub pool : po′ ≡ callPool st re po x
+  -- the refusal is the first of document 01's list that holds ..
+  pub refuses : r ≡ exportedRefusal st re po x
+  -- .. and "state, pool, state slice and reply slice keep their bytes"
+  pub unchanged : (r ≡ 0 → ⊥) → (st′ ≡ st) × (re′ ≡ re) × (po′ ≡ po)
+
+-- ---- A start
+
+-- "(at start that is 3)": after 2
+unfoldable pub unknownStart : Settings → ℕ → Outcome
+unknownStart set pool =
+    refusedAs (record { set = set; wait = Wait.Asking Asked.Idle }) (cond (eqb (settingsRefusal set pool) 2) 2 3)
+
+unfoldable pub begunOutcome : StartNumbers → List ℕ → Outcome
+begunOutcome n po =
+    cond (ltb (n .«implicit_broadcast») 2) (startOf (settingsOf n) po) (unknownStart (settingsOf n) (length po))
+
+unfoldable pub begunPool : StartNumbers → List ℕ → List ℕ
+begunPool n po = cond (ltb (n .«implicit_broadcast») 2) (startPool (settingsOf n) po) po
+
+unfoldable pub startResult : StartNumbers → List ℕ → List ℕ → List ℕ → ℕ
+startResult n st re po = cond (lengthsFit (length st) (length re)) (begunOutcome n po .refusal) 1
+
+unfoldable pub startState : StartNumbers → List ℕ → List ℕ → List ℕ → List ℕ
+startState n st re po = ifAccepted (startResult n st re po) (writtenState (begunOutcome n po .state)) st
+
+unfoldable pub startReply : StartNumbers → List ℕ → List ℕ → List ℕ → List ℕ
+startReply n st re po = ifAccepted (startResult n st re po) (writtenReply (begunOutcome n po .reply)) re
+
+unfoldable pub startedPool : StartNumbers → List ℕ → List ℕ → List ℕ → List ℕ
+startedPool n st re po = ifAccepted (startResult n st re po) (begunPool n po) po

@@ -1,0 +1,102 @@
+-- What the numbers of an exported call stand for: docs/LAYOUTS.md, "Codes of the numbers".
+-- Assumes nothing.
+use Prim.Native.Nat.{ℕ}
+use mathlib.Core.Bool.{Bool, true, _&&_, _||_}
+use mathlib.Core.List.{List, [], _∷_}
+use lib.Dec.{ltb, eqb}
+use lib.ListN.{getD}
+use Rattle.radio_frame.specs.declared.Settings.{Settings}
+use Rattle.tasks.specs.declared.Call.{Call}
+use Rattle.tasks.specs.declared.Cause.{Cause}
+use Rattle.tasks.specs.declared.RxResult.{RxResult}
+use Rattle.tasks.specs.declared.StopResult.{StopResult}
+use Rattle.tasks.specs.declared.Task.{Task}
+use Rattle.tasks.specs.declared.TaskResult.{TaskResult}
+use Rattle.tasks.specs.declared.Timestamp.{Timestamp}
+use Rattle.driver_c.specs.declared.ExportedCall.{ExportedCall}
+use Rattle.driver_c.specs.declared.StartNumbers.{StartNumbers}
+
+-- Each table has its cases in the order of their codes, from 0 on, the last case at the end of its definition. A code past the
+-- end stands for nothing; `knownOf` says so, and the call is refused.
+
+-- start: "0 best effort, 1 at `time`"
+unfoldable pub timestampAt : ℕ → ℕ → Timestamp
+timestampAt time code = getD (Timestamp.BestEffort ∷ []) code (Timestamp.Scheduled time)
+
+-- direction: "0 Tx, 1 Rx"; cca: "0 no, 1 yes"
+unfoldable pub taskAt : ℕ → ℕ → ℕ → Task
+taskAt length cca code = getD (Task.Tx length (eqb cca 1) ∷ []) code Task.Rx
+
+-- outcome: "0 frame started, 1 failed, 2 window ended with a frame, 3 .. with "window ended", 4 .. with a CRC error"
+abbrev pub stopTable : ℕ → ℕ → List StopResult
+stopTable length time =
+    StopResult.FrameStarted
+    ∷ StopResult.Failed
+    ∷ StopResult.RxWindowEnded (RxResult.Frame length time)
+    ∷ StopResult.RxWindowEnded RxResult.RxWindowEnded
+    ∷ []
+
+unfoldable pub stopAt : ℕ → ℕ → ℕ → StopResult
+stopAt length time code = getD (stopTable length time) code (StopResult.RxWindowEnded (RxResult.CrcError time))
+
+-- result: "0 off, 1 sent, 2 a frame, 3 window ended, 4 CRC error"
+abbrev pub resultTable : ℕ → ℕ → List TaskResult
+resultTable length time =
+    TaskResult.Off
+    ∷ TaskResult.Sent time
+    ∷ TaskResult.Rx (RxResult.Frame length time)
+    ∷ TaskResult.Rx RxResult.RxWindowEnded
+    ∷ []
+
+unfoldable pub resultAt : ℕ → ℕ → ℕ → TaskResult
+resultAt length time code = getD (resultTable length time) code (TaskResult.Rx (RxResult.CrcError time))
+
+-- cause: "0 scheduling without a time, 1 scheduling with the time `cause_time`, 2 task"
+abbrev pub causeTable : ℕ → List Cause
+causeTable time = Cause.Scheduling Timestamp.BestEffort ∷ Cause.Scheduling (Timestamp.Scheduled time) ∷ []
+
+unfoldable pub causeAt : ℕ → ℕ → Cause
+causeAt time code = getD (causeTable time) code Cause.Task
+
+-- every code that the call uses stands for something; a number that the codes leave unused is ignored
+unfoldable pub knownOf : ExportedCall → Bool
+knownOf (ExportedCall.Request token direction start time buffer length cca) =
+    ltb start 2 && (eqb direction 1 || (eqb direction 0 && ltb cca 2))
+knownOf ExportedCall.None = true
+knownOf ExportedCall.FrameStart = true
+knownOf (ExportedCall.OutboundSeen start time cca) = ltb start 2 && ltb cca 2
+knownOf (ExportedCall.Stopped outcome length time) = ltb outcome 5
+knownOf (ExportedCall.Header arrived length) = true
+knownOf (ExportedCall.Entered result length time entry) = ltb result 5
+knownOf (ExportedCall.Fallback result length time cause causeTime) = ltb result 5 && ltb cause 3
+knownOf ExportedCall.Rollback = true
+
+-- the engine's call
+unfoldable pub callOf : ExportedCall → Call
+callOf (ExportedCall.Request token direction start time buffer length cca) =
+    Call.Request
+    (record { token = token; start = timestampAt time start; buffer = buffer; task = taskAt length cca direction })
+callOf ExportedCall.None = Call.None
+callOf ExportedCall.FrameStart = Call.FrameStart
+callOf (ExportedCall.OutboundSeen start time cca) = Call.OutboundSeen (timestampAt time start) (eqb cca 1)
+callOf (ExportedCall.Stopped outcome length time) = Call.Stopped (stopAt length time outcome)
+callOf (ExportedCall.Header arrived length) = Call.Header arrived length
+callOf (ExportedCall.Entered result length time entry) = Call.Entered (resultAt length time result) entry
+callOf (ExportedCall.Fallback result length time cause causeTime) =
+    Call.Fallback (resultAt length time result) (causeAt causeTime cause)
+callOf ExportedCall.Rollback = Call.Rollback
+
+-- the settings of a start
+unfoldable pub settingsOf : StartNumbers → Settings
+settingsOf n =
+    record {
+      count = n .count;
+      headroom = n .headroom;
+      tailroom = n .tailroom;
+      «fcs_length» = n .«fcs_length»;
+      «hardware_addr» = n .«hardware_addr»;
+      «pan_id» = n .«pan_id»;
+      «implicit_broadcast» = eqb (n .«implicit_broadcast») 1;
+      «ack_buffer» = n .«ack_buffer»;
+      «spare_buffer» = n .«spare_buffer»;
+    }

@@ -1,0 +1,93 @@
+-- The third demand in the exported form: lists of exported calls, and the book that is kept from start's numbers, the calls'
+-- numbers, the pool as found, the returned number and the reply's bytes alone.
+-- Assumes nothing.
+use Prim.Native.Nat.{ℕ, _^_, _<_}
+use mathlib.Core.Path.{_≡_}
+use mathlib.Core.Bool.{true}
+use mathlib.Core.List.{List, [], _∷_}
+use Rattle.util.specs.Bytes.{AllBytes}
+use Rattle.tasks.specs.declared.Action.{Action}
+use Rattle.tasks.specs.declared.Reply.{Reply}
+use Rattle.driver.specs.Book.{Book, bookStep, startBook, Sound}
+use Rattle.state_bytes.specs.Layout.{stateAt}
+use Rattle.reply_bytes.specs.Reply.{answersAt}
+use Rattle.driver_c.specs.declared.ExportedCall.{ExportedCall}
+use Rattle.driver_c.specs.declared.StartNumbers.{StartNumbers}
+use Rattle.driver_c.specs.Codes.{callOf, settingsOf}
+use Rattle.driver_c.specs.Calls.{formOk, callResult, callState, callReply}
+
+-- what the book takes of a reply: its answers, as the reply's bytes have them by docs/LAYOUTS.md
+abbrev pub replyAt : List ℕ → Reply
+replyAt bytes = record { action = Action.Nothing; answers = answersAt bytes }
+
+-- one call of a list: its numbers, and reply slice and pool as it finds them, of any length and content
+pub record ByteTurn : Type 0 where
+  pub call : ExportedCall
+  pub reply : List ℕ
+  pub pool : List ℕ
+
+-- the state slice as the last call left it, and the book
+pub record ByteMoment : Type 0 where
+  pub state : List ℕ
+  pub book : Book
+
+-- the book takes the call's numbers, the pool as found, the returned number and the reply's bytes
+unfoldable pub byteTurn : ByteMoment → ByteTurn → ByteMoment
+byteTurn m t =
+    record {
+      state = callState (m .state) (t .reply) (t .pool) (t .call);
+      book =
+          bookStep (m .book) (t .pool) (callOf (t .call)) (callResult (m .state) (t .reply) (t .pool) (t .call))
+          (replyAt (callReply (m .state) (t .reply) (t .pool) (t .call)));
+    }
+
+unfoldable pub afterBytes : ByteMoment → List ByteTurn → ByteMoment
+afterBytes m [] = m
+afterBytes m (t ∷ ts) = afterBytes (byteTurn m t) ts
+
+-- ---- "Numbers are any that the arguments' types hold": a list of numbers and byte slices, and nothing more is asked of it
+
+abbrev pub NumbersFit : ExportedCall → Type 0
+NumbersFit (ExportedCall.Request token direction start time buffer length cca) =
+    (token < 2 ^ 32) × (time < 2 ^ 64) × (buffer < 2 ^ 8) × (length < 2 ^ 16)
+NumbersFit ExportedCall.None = Unit {0}
+NumbersFit ExportedCall.FrameStart = Unit {0}
+NumbersFit (ExportedCall.OutboundSeen start time cca) = time < 2 ^ 64
+NumbersFit (ExportedCall.Stopped outcome length time) = (length < 2 ^ 16) × (time < 2 ^ 64)
+NumbersFit (ExportedCall.Header arrived length) = (arrived < 2 ^ 16) × (length < 2 ^ 16)
+NumbersFit (ExportedCall.Entered result length time entry) = (length < 2 ^ 16) × (time < 2 ^ 64) × (entry < 2 ^ 64)
+NumbersFit (ExportedCall.Fallback result length time cause causeTime) =
+    (length < 2 ^ 16) × (time < 2 ^ 64) × (causeTime < 2 ^ 64)
+NumbersFit ExportedCall.Rollback = Unit {0}
+
+abbrev pub TurnsFit : List ByteTurn → Type 0
+TurnsFit [] = Unit {0}
+TurnsFit (t ∷ ts) = (NumbersFit (t .call) × AllBytes (t .pool)) × TurnsFit ts
+
+pub record StartFits (n : StartNumbers) : Type 0 where
+  pub count : n .count < 2 ^ 8
+  pub headroom : n .headroom < 2 ^ 8
+  pub tailroom : n .tailroom < 2 ^ 8
+  pub fcs : n .«fcs_length» < 2 ^ 8
+  pub address : n .«hardware_addr» < 2 ^ 64
+  pub pan : n .«pan_id» < 2 ^ 16
+  pub ack : n .«ack_buffer» < 2 ^ 8
+  pub spare : n .«spare_buffer» < 2 ^ 8
+
+-- ---- The claims
+
+-- after every call the state slice holds a valid state, and of that state and the book holds what the engine's theorem claims
+pub record ByteSound (m : ByteMoment) : Type 0 where
+  pub valid : formOk (m .state) 48 ≡ true
+  pub sound : Sound (record { state = stateAt (m .state); book = m .book })
+
+-- THE THIRD DEMAND in the exported form, of the state bytes st that a start with the numbers n left and the number r that it
+-- returned: if it was accepted, then after every list of exported calls, with slices of any length and codes that stand for
+-- nothing among them, each on the state slice that the last one left, the book is sound
+unfoldable pub AlwaysByteSound : StartNumbers → ℕ → List ℕ → Type 0
+AlwaysByteSound n r st =
+    StartFits n →
+    r ≡ 0 →
+    (ts : List ByteTurn) →
+    TurnsFit ts →
+    ByteSound (afterBytes (record { state = st; book = startBook (settingsOf n) }) ts)

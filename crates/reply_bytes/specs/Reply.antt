@@ -1,0 +1,204 @@
+-- The reply's 48 bytes: docs/LAYOUTS.md, "The reply's 48 bytes".
+-- Assumes nothing.
+use Prim.Native.Nat.{ℕ, _+_, _-_, _%_, _^_, _<_}
+use mathlib.Core.Path.{_≡_}
+use mathlib.Core.Bool.{Bool, cond}
+use mathlib.Core.List.{List, [], _∷_, _++_}
+use lib.Dec.{eqb}
+use lib.ListN.{getD}
+use Rattle.util.specs.Bytes.{numberAt, bytesOf}
+use Rattle.phy.specs.declared.Ifs.{Ifs}
+use Rattle.tasks.specs.declared.Action.{Action}
+use Rattle.tasks.specs.declared.Answer.{Answer}
+use Rattle.tasks.specs.declared.Answers.{Answers}
+use Rattle.tasks.specs.declared.Cause.{Cause}
+use Rattle.tasks.specs.declared.Reply.{Reply}
+use Rattle.tasks.specs.declared.Response.{Response}
+use Rattle.tasks.specs.declared.RxResult.{RxResult}
+use Rattle.tasks.specs.declared.Spacing.{Spacing}
+use Rattle.tasks.specs.declared.StopListening.{StopListening}
+use Rattle.tasks.specs.declared.TaskDirection.{TaskDirection}
+use Rattle.tasks.specs.declared.Timestamp.{Timestamp}
+use Rattle.reply_bytes.specs.declared.ActionFields.{ActionFields}
+use Rattle.reply_bytes.specs.declared.CameTo.{CameTo}
+use Rattle.reply_bytes.specs.declared.AnswerFields.{AnswerFields}
+
+-- ---- The action
+
+-- "bits 3 and 4 spacing: 0 none, 1 ACK, 2 short, 3 long"
+unfoldable pub ifsBits : Ifs → ℕ
+ifsBits Ifs.Aifs = 8
+ifsBits Ifs.Sifs = 16
+ifsBits Ifs.Lifs = 24
+
+unfoldable pub spacingBits : Spacing → ℕ
+spacingBits Spacing.None = 0
+spacingBits (Spacing.After i) = ifsBits i
+
+-- "bit 2 the start is a time"
+unfoldable pub startBit : Timestamp → ℕ
+startBit Timestamp.BestEffort = 0
+startBit (Timestamp.Scheduled t) = 4
+
+unfoldable pub startTime : Timestamp → ℕ
+startTime Timestamp.BestEffort = 0
+startTime (Timestamp.Scheduled t) = t
+
+unfoldable pub directionCode : TaskDirection → ℕ
+directionCode TaskDirection.Any = 2
+directionCode TaskDirection.Outbound = 3
+
+-- code, buffer, length, flags, time
+abbrev pub actionOf : ℕ → ℕ → ℕ → ℕ → ℕ → ActionFields
+actionOf code buffer length flags time =
+    record { code = code; buffer = buffer; length = length; flags = flags; time = time }
+
+-- an action with nothing but its code
+abbrev pub plainAction : ℕ → ActionFields
+plainAction code = actionOf code 0 0 0 0
+
+unfoldable pub stopFields : StopListening → ActionFields
+stopFields StopListening.Now = plainAction 5
+stopFields (StopListening.At t) = actionOf 6 0 0 0 t
+stopFields (StopListening.Before t cca) = actionOf 7 0 0 (cond cca 1 0) t
+
+unfoldable pub actionFields : Action → ActionFields
+actionFields Action.Nothing = plainAction 0
+actionFields Action.ReceiveRequest = plainAction 1
+actionFields (Action.TryReceiveRequest d) = plainAction (directionCode d)
+actionFields Action.Listen = plainAction 4
+actionFields (Action.Stop p) = stopFields p
+actionFields Action.ReadHeader = plainAction 8
+actionFields (Action.Tx b n cca start spacing rollback) =
+    actionOf 9 b (n % 256) (cond cca 1 0 + cond rollback 2 0 + startBit start + spacingBits spacing) (startTime start)
+actionFields (Action.Rx b start spacing rollback) =
+    actionOf 10 b 0 (cond rollback 2 0 + startBit start + spacingBits spacing) (startTime start)
+actionFields (Action.Off rollback) = actionOf 11 0 0 (cond rollback 2 0) 0
+
+-- ---- The answers
+
+-- code, length, time
+abbrev pub cameTo : ℕ → ℕ → ℕ → CameTo
+cameTo code length time = record { code = code; length = length; time = time }
+
+unfoldable pub schedulingFields : Timestamp → CameTo
+schedulingFields Timestamp.BestEffort = cameTo 3 0 0
+schedulingFields (Timestamp.Scheduled t) = cameTo 4 0 t
+
+unfoldable pub causeFields : Cause → CameTo
+causeFields (Cause.Scheduling start) = schedulingFields start
+causeFields Cause.Task = cameTo 5 0 0
+
+unfoldable pub receivedFields : RxResult → CameTo
+receivedFields (RxResult.Frame n t) = cameTo 6 (n % 256) t
+receivedFields RxResult.RxWindowEnded = cameTo 7 0 0
+receivedFields (RxResult.CrcError t) = cameTo 8 0 t
+
+unfoldable pub responseFields : Response → CameTo
+responseFields (Response.Sent t) = cameTo 1 0 t
+responseFields (Response.Nack t) = cameTo 2 0 t
+responseFields (Response.Error cause) = causeFields cause
+responseFields (Response.Received x) = receivedFields x
+
+-- "0 no answer; all its bytes are 0"
+abbrev pub noAnswer : AnswerFields
+noAnswer = record { token = 0; buffer = 0; response = cameTo 0 0 0 }
+
+unfoldable pub answerFields : Answer → AnswerFields
+answerFields a = record { token = a .token; buffer = a .buffer; response = responseFields (a .response) }
+
+-- "With one answer it is the first, and the second is all 0."
+unfoldable pub firstFields : Answers → AnswerFields
+firstFields Answers.None = noAnswer
+firstFields (Answers.One a) = answerFields a
+firstFields (Answers.Two a b) = answerFields a
+
+unfoldable pub secondFields : Answers → AnswerFields
+secondFields Answers.None = noAnswer
+secondFields (Answers.One a) = noAnswer
+secondFields (Answers.Two a b) = answerFields b
+
+-- ---- The bytes
+
+-- an answer's 18 bytes
+abbrev pub writtenAnswer : AnswerFields → List ℕ
+writtenAnswer x =
+    x .response .code
+    ∷ bytesOf 4 (x .token)
+    ++ x .buffer
+    ∷ x .response .length
+    ∷ bytesOf 8 (x .response .time)
+    ++ 0
+    ∷ 0
+    ∷ 0
+    ∷ []
+
+unfoldable pub writtenFields : ActionFields → AnswerFields → AnswerFields → List ℕ
+writtenFields a x y =
+    a .code ∷ a .buffer ∷ a .length ∷ a .flags ∷ bytesOf 8 (a .time) ++ writtenAnswer x ++ writtenAnswer y
+
+unfoldable pub writtenReply : Reply → List ℕ
+writtenReply r = writtenFields (actionFields (r .action)) (firstFields (r .answers)) (secondFields (r .answers))
+
+-- ---- The answers as they are read from the bytes
+
+-- what the codes from 1 on stand for, with the length and the time beside them
+unfoldable pub responseAt : ℕ → ℕ → ℕ → Response
+responseAt code length time =
+    getD
+    (Response.Sent time
+    ∷ Response.Nack time
+    ∷ Response.Error (Cause.Scheduling Timestamp.BestEffort)
+    ∷ Response.Error (Cause.Scheduling (Timestamp.Scheduled time))
+    ∷ Response.Error Cause.Task
+    ∷ Response.Received (RxResult.Frame length time)
+    ∷ Response.Received RxResult.RxWindowEnded
+    ∷ [])
+    (code - 1)
+    (Response.Received (RxResult.CrcError time))
+
+abbrev pub answerAt : List ℕ → ℕ → Answer
+answerAt bytes at =
+    record {
+      token = numberAt bytes (at + 1) 4;
+      buffer = getD bytes (at + 5) 0;
+      response = responseAt (getD bytes at 0) (getD bytes (at + 6) 0) (numberAt bytes (at + 7) 8);
+    }
+
+-- the first answer stands at 12, the second at 30
+unfoldable pub answersAt : List ℕ → Answers
+answersAt bytes =
+    cond (eqb (getD bytes 12 0) 0) Answers.None
+    (cond (eqb (getD bytes 30 0) 0) (Answers.One (answerAt bytes 12)) (Answers.Two (answerAt bytes 12) (answerAt bytes 30)))
+
+-- ---- A law of these definitions; proofs/ReadBack.antt has its proof.
+
+-- the numbers of an answer fit the bytes that hold them
+abbrev pub CauseFits : Cause → Type 0
+CauseFits (Cause.Scheduling Timestamp.BestEffort) = Unit {0}
+CauseFits (Cause.Scheduling (Timestamp.Scheduled t)) = t < 2 ^ 64
+CauseFits Cause.Task = Unit {0}
+
+abbrev pub ReceivedFits : RxResult → Type 0
+ReceivedFits (RxResult.Frame n t) = (n < 256) × (t < 2 ^ 64)
+ReceivedFits RxResult.RxWindowEnded = Unit {0}
+ReceivedFits (RxResult.CrcError t) = t < 2 ^ 64
+
+abbrev pub ResponseFits : Response → Type 0
+ResponseFits (Response.Sent t) = t < 2 ^ 64
+ResponseFits (Response.Nack t) = t < 2 ^ 64
+ResponseFits (Response.Error cause) = CauseFits cause
+ResponseFits (Response.Received x) = ReceivedFits x
+
+pub record AnswerFits (a : Answer) : Type 0 where
+  pub token : a .token < 2 ^ 32
+  pub response : ResponseFits (a .response)
+
+abbrev pub AnswersFit : Answers → Type 0
+AnswersFit Answers.None = Unit {0}
+AnswersFit (Answers.One a) = AnswerFits a
+AnswersFit (Answers.Two a b) = AnswerFits a × AnswerFits b
+
+-- the answers of a reply are read back from its bytes
+abbrev pub AnswersReadBack : Type 0
+AnswersReadBack = (r : Reply) → AnswersFit (r .answers) → answersAt (writtenReply r) ≡ r .answers

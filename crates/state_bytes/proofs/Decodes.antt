@@ -1,0 +1,25 @@
+-- What `decode` answers, from its two tests.
+-- Assumes nothing.
+use Prim.Native.Nat.{ℕ}
+use mathlib.Core.Path.{_≡_, refl, sym, _∙_}
+use mathlib.Core.Bool.{Bool, true, false, _&&_}
+use mathlib.Core.List.{List}
+use Rattle.tasks.specs.declared.State.{State}
+use Rattle.state_bytes.specs.declared.Decoded.{Decoded}
+use Rattle.state_bytes.specs.Layout.{stateAt, writtenState}
+use Rattle.state_bytes.specs.Valid.{validState, sameList, accepted, decodedOf}
+
+module _ {valid written both : Bool} (bytes : List ℕ) (s : State) where
+  tested : s ≡ stateAt bytes → valid ≡ validState s → written ≡ sameList (writtenState s) bytes → both ≡ (valid && written) → both ≡ accepted bytes
+  unfolding accepted
+  tested e v w b = b ∙ rw (v, w, e)
+
+  pub given-valid : s ≡ stateAt bytes → valid ≡ validState s → written ≡ sameList (writtenState s) bytes → both ≡ (valid && written) → both ≡ true
+      → Decoded.Valid s ≡ decodedOf bytes
+  unfolding decodedOf
+  given-valid e v w b t = rw (sym (tested e v w b) ∙ t, e)
+
+  pub given-invalid : s ≡ stateAt bytes → valid ≡ validState s → written ≡ sameList (writtenState s) bytes → both ≡ (valid && written) → both ≡ false
+      → Decoded.Invalid ≡ decodedOf bytes
+  unfolding decodedOf
+  given-invalid e v w b t = rw (sym (tested e v w b) ∙ t)

@@ -1,0 +1,64 @@
+/* The driver service of IEEE 802.15.4 as C functions on numbers and byte slices.
+ *
+ * docs/LAYOUTS.md gives every code and both layouts byte by byte. A slice is a pointer and its length in bytes; the three slices of
+ * a call are the state, the reply and the pool, and must not overlap. Each function returns 0 or the number of the refusal, and a
+ * refusal leaves all three slices as they were. tests/40-header.sh compares these declarations with the source. */
+#ifndef WIDOSHA_H
+#define WIDOSHA_H
+
+#include <stddef.h>
+#include <stdint.h>
+
+#define WIDOSHA_STATE_LENGTH 64
+#define WIDOSHA_REPLY_LENGTH 48
+#define WIDOSHA_BUFFER_LENGTH 144
+
+#ifdef __cplusplus
+extern "C" {
+#endif
+
+uint8_t widosha_start(
+    uint8_t count, uint8_t headroom, uint8_t tailroom, uint8_t fcs_length,
+    uint64_t hardware_addr, uint16_t pan_id, uint8_t implicit_broadcast,
+    uint8_t ack_buffer, uint8_t spare_buffer,
+    uint8_t *state, size_t state_len, uint8_t *reply, size_t reply_len, uint8_t *pool, size_t pool_len);
+
+uint8_t widosha_request(
+    uint32_t token, uint8_t direction, uint8_t start, uint64_t time,
+    uint8_t buffer, uint16_t length, uint8_t cca,
+    uint8_t *state, size_t state_len, uint8_t *reply, size_t reply_len, uint8_t *pool, size_t pool_len);
+
+uint8_t widosha_none(
+    uint8_t *state, size_t state_len, uint8_t *reply, size_t reply_len, uint8_t *pool, size_t pool_len);
+
+uint8_t widosha_frame_start(
+    uint8_t *state, size_t state_len, uint8_t *reply, size_t reply_len, uint8_t *pool, size_t pool_len);
+
+uint8_t widosha_outbound_seen(
+    uint8_t start, uint64_t time, uint8_t cca,
+    uint8_t *state, size_t state_len, uint8_t *reply, size_t reply_len, uint8_t *pool, size_t pool_len);
+
+uint8_t widosha_stopped(
+    uint8_t outcome, uint16_t length, uint64_t time,
+    uint8_t *state, size_t state_len, uint8_t *reply, size_t reply_len, uint8_t *pool, size_t pool_len);
+
+uint8_t widosha_header(
+    uint16_t arrived, uint16_t length,
+    uint8_t *state, size_t state_len, uint8_t *reply, size_t reply_len, uint8_t *pool, size_t pool_len);
+
+uint8_t widosha_entered(
+    uint8_t result, uint16_t length, uint64_t time, uint64_t entry,
+    uint8_t *state, size_t state_len, uint8_t *reply, size_t reply_len, uint8_t *pool, size_t pool_len);
+
+uint8_t widosha_fallback(
+    uint8_t result, uint16_t length, uint64_t time, uint8_t cause, uint64_t cause_time,
+    uint8_t *state, size_t state_len, uint8_t *reply, size_t reply_len, uint8_t *pool, size_t pool_len);
+
+uint8_t widosha_rollback(
+    uint8_t *state, size_t state_len, uint8_t *reply, size_t reply_len, uint8_t *pool, size_t pool_len);
+
+#ifdef __cplusplus
+}
+#endif
+
+#endif

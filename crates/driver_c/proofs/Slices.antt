@@ -29,7 +29,7 @@ use Rattle.reply_bytes.specs.Reply.{writtenReply, writtenFields}
 use Rattle.driver_c.specs.declared.ExportedCall.{ExportedCall}
 use Rattle.driver_c.specs.declared.StartNumbers.{StartNumbers}
 use Rattle.driver_c.specs.Codes.{knownOf, callOf, settingsOf}
-use Rattle.driver_c.specs.Calls.{lengthsFit, formOk, readOf, refusedAs, unknownOf, unknownStart, madeOutcome, madePool, exportedRefusal, copiedOver, Finished, ifAccepted, callResult, callState, callReply, callPool, Called, begunOutcome, begunPool, startResult, startState, startReply, startedPool}
+use Rattle.driver_c.specs.Calls.{lengthsFit, formOk, readOf, refusedAs, unknownOf, unknownStart, madeOutcome, madePool, exportedRefusal, storedOver, Finished, ifAccepted, callResult, callState, callReply, callPool, Called, begunOutcome, begunPool, startResult, startState, startReply, startedPool}
 use Rattle.driver_c.specs.Lists.{AlwaysByteSound}
 use Rattle.driver_c.specs.Started.{StartCalled}
 
@@ -39,22 +39,27 @@ use Rattle.driver_c.specs.Started.{StartCalled}
 copied : (s d : List ℕ) → length s ≡ length d → take (length s) s ++ drop (length s) d ≡ s
 copied s d e = rw (e, drop-length) (rw append-nil (rw (← e) (take-length s)))
 
-module _ (f r : Bool) (s d : List ℕ) (e : r ≡ (f && eqb (length s) (length d))) where
-  pub copy-room : r ≡ true → length s ≡ length d
-  copy-room t = eqb-true _ _ (and-right f (eqb (length s) (length d)) (sym e ∙ t))
+module _ (s d : List ℕ) where
+  pub store-done : (d′ : List ℕ) → length s ≡ length d → d′ ≡ take (length s) s ++ drop (length s) d → d′ ≡ storedOver s d
+  unfolding storedOver
+  store-done d′ e p = p ∙ copied s d e ∙ simp (eq-eqb _ _ e)
 
-  pub copy-done : (d′ : List ℕ) → r ≡ true → d′ ≡ take (length s) s ++ drop (length s) d → d′ ≡ copiedOver f s d
-  unfolding copiedOver
-  copy-done d′ t p = p ∙ copied s d (copy-room t) ∙ rw (← e, t)
+  pub store-left : (length s ≡ length d → ⊥) → d ≡ storedOver s d
+  unfolding storedOver
+  store-left e = simp (ne-eqb _ _ e)
 
-  pub copy-left : r ≡ false → d ≡ copiedOver f s d
-  unfolding copiedOver
-  copy-left t = rw (← e, t)
+  over : length s ≡ length d → storedOver s d ≡ s
+  unfolding storedOver
+  over e = simp (eq-eqb _ _ e)
 
-over : (f : Bool) (new old : List ℕ) → length new ≡ length old → copiedOver f new old ≡ cond f new old
-unfolding copiedOver
-over true new old e = simp (eq-eqb _ _ e)
-over false new old e = refl
+module _ (o : Outcome) (st re : List ℕ) where
+  pub finished : (r : ℕ) (st′ re′ es er : List ℕ) → r ≡ o .refusal → o .refusal ≡ 0 → es ≡ writtenState (o .state) → er ≡ writtenReply (o .reply)
+      → st′ ≡ storedOver es st → re′ ≡ storedOver er re → Finished o st re r st′ re′
+  finished r st′ re′ es er p z e f q u =
+      record { result = p; state = q ∙ simp (eq-eqb (o .refusal) 0 z, e); reply = u ∙ simp (eq-eqb (o .refusal) 0 z, f) }
+
+  pub not-finished : (r : ℕ) → r ≡ o .refusal → (o .refusal ≡ 0 → ⊥) → Finished o st re r st re
+  not-finished r p z = record { result = p; state = simp (ne-eqb (o .refusal) 0 z); reply = simp (ne-eqb (o .refusal) 0 z) }
 
 pub state-length : (s : State) → length (writtenState s) ≡ 64
 unfolding writtenState writtenParts
@@ -83,8 +88,8 @@ settled : (o : Outcome) (st re : List ℕ) (r : ℕ) (st′ re′ : List ℕ) �
 settled o st re r st′ re′ ok F =
     record {
       result = F .result;
-      state = F .state ∙ over (eqb (o .refusal) 0) (writtenState (o .state)) st (state-length (o .state) ∙ sym (lengths st re ok .0));
-      reply = F .reply ∙ over (eqb (o .refusal) 0) (writtenReply (o .reply)) re (reply-length (o .reply) ∙ sym (lengths st re ok .1));
+      state = F .state ∙ ap (λ (l : List ℕ). ifAccepted (o .refusal) l st) (over (writtenState (o .state)) st (state-length (o .state) ∙ sym (lengths st re ok .0)));
+      reply = F .reply ∙ ap (λ (l : List ℕ). ifAccepted (o .refusal) l re) (over (writtenReply (o .reply)) re (reply-length (o .reply) ∙ sym (lengths st re ok .1)));
     }
 
 -- ---- Reading

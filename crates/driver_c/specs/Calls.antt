@@ -65,18 +65,18 @@ exportedRefusal st re po x =
 -- ---- Writing
 
 -- new bytes over old ones that are as many
-unfoldable pub copiedOver : Bool → List ℕ → List ℕ → List ℕ
-copiedOver flag new old = cond (flag && eqb (length new) (length old)) new old
-
--- what is written for an outcome
-pub record Finished (o : Outcome) (st re : List ℕ) (r : ℕ) (st′ re′ : List ℕ) : Type 0 where
-  pub result : r ≡ o .refusal
-  pub state : st′ ≡ copiedOver (eqb (o .refusal) 0) (writtenState (o .state)) st
-  pub reply : re′ ≡ copiedOver (eqb (o .refusal) 0) (writtenReply (o .reply)) re
+unfoldable pub storedOver : List ℕ → List ℕ → List ℕ
+storedOver new old = cond (eqb (length new) (length old)) new old
 
 -- the new bytes of a slice where the call is accepted, the old ones where it is refused
 abbrev pub ifAccepted : ℕ → List ℕ → List ℕ → List ℕ
 ifAccepted refusal new old = cond (eqb refusal 0) new old
+
+-- what is written for an outcome
+pub record Finished (o : Outcome) (st re : List ℕ) (r : ℕ) (st′ re′ : List ℕ) : Type 0 where
+  pub result : r ≡ o .refusal
+  pub state : st′ ≡ ifAccepted (o .refusal) (storedOver (writtenState (o .state)) st) st
+  pub reply : re′ ≡ ifAccepted (o .refusal) (storedOver (writtenReply (o .reply)) re) re
 
 -- ---- A call: the engine's, between reading and writing
 

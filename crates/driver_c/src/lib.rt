@@ -4,7 +4,7 @@ ghost use mathlib.Core.Bool.{cond, _&&_};
 ghost use lib.Dec.{eqb};
 ghost use lib.ListN.{length};
 ghost use Rattle.driver_c.specs.Codes.{timestampAt, taskAt, stopAt, resultAt, causeAt, knownOf, callOf, settingsOf};
-ghost use Rattle.driver_c.specs.Calls.{lengthsFit, readOf, refusedAs, unknownOf, madeOutcome, madePool, copiedOver, unknownStart, begunOutcome, begunPool, Finished, Called};
+ghost use Rattle.driver_c.specs.Calls.{lengthsFit, readOf, refusedAs, unknownOf, madeOutcome, madePool, storedOver, unknownStart, begunOutcome, begunPool, Finished, Called};
 ghost use Rattle.driver_c.specs.declared.ExportedCall.{ExportedCall};
 ghost use Rattle.driver_c.specs.Started.{StartCalled};
 use driver::Outcome;
@@ -236,11 +236,11 @@ fn made(s: State, pool: &mut [u8], x: ExportedCall) -> Outcome
     }
 }
 
-// Writes src over dst, where the flag is set and the two are as long.
-fn copy_if(flag: bool, src: &[u8], dst: &mut [u8])
-    ensures { λ _. ⌜ now (dst .exit) ≡ copiedOver flag (now (src .entry)) (now (dst .entry)) ⌝ }
+// Writes src over dst, where the two are as long.
+fn store(src: &[u8], dst: &mut [u8])
+    ensures { λ _. ⌜ now (dst .exit) ≡ storedOver (now (src .entry)) (now (dst .entry)) ⌝ }
 {
-    if util::both(flag, src.len() == dst.len()) {
+    if src.len() == dst.len() {
         bytes::copy(src, dst);
     }
 }
@@ -250,12 +250,14 @@ fn finish(o: Outcome, state: &mut [u8], reply: &mut [u8]) -> u8
     ensures { λ r. ⌜ Finished o (now (state .entry)) (now (reply .entry)) r (now (state .exit)) (now (reply .exit)) ⌝ }
 {
     let refusal = o.refusal;
-    let next = o.state;
-    let answer = o.reply;
-    let new_state = state_bytes::encode(next);
-    let new_reply = reply_bytes::encode(answer);
-    copy_if(refusal == 0, &new_state, state);
-    copy_if(refusal == 0, &new_reply, reply);
+    if refusal == 0 {
+        let next = o.state;
+        let answer = o.reply;
+        let new_state = state_bytes::encode(next);
+        let new_reply = reply_bytes::encode(answer);
+        store(&new_state, state);
+        store(&new_reply, reply);
+    }
     refusal
 }
 

@@ -552,11 +552,27 @@ fn is_valid_state(s: State) -> bool
     )
 }
 
+// Whether two byte strings are the same. All bytes are looked at, whatever the first ones say: so the loop can take many at once.
+fn is_same(a: &[u8], b: &[u8]) -> bool
+    ensures { λ r. ⌜ r ≡ sameList (now (a .entry)) (now (b .entry)) ⌝ }
+{
+    if a.len() != b.len() {
+        return false;
+    }
+    let mut same = true;
+    let mut i = 0;
+    while i < a.len() {
+        same = util::both(same, a[i] == b[i]);
+        i = i + 1;
+    }
+    same
+}
+
 fn is_written_as(bytes: &[u8], s: State) -> bool
     ensures { λ r. ⌜ r ≡ sameList (writtenState s) (now (bytes .entry)) ⌝ }
 {
     let written = encode(s);
-    check::same(&written, bytes)
+    is_same(&written, bytes)
 }
 
 // The valid state that bytes are written as.

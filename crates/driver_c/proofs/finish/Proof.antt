@@ -4,6 +4,7 @@ use borrow.Author.Needs.{needs}
 use Rattle.driver_c.proofs.finish.Statement.{statement}
 use Rattle.driver_c.proofs.finish.Tie as tie
 use mathlib.Core.Path.{refl}
+use Rattle.driver_c.proofs.Slices.{finished, not-finished}
 
 encode-requires : tie.Need-encode-requires
 encode-requires c κs = search needs
@@ -11,17 +12,17 @@ encode-requires c κs = search needs
 encode-requires-2 : tie.Need-encode-requires-2
 encode-requires-2 c κs = search needs
 
-slice-aggregate-copy-if : tie.Need-slice-aggregate-copy-if
-slice-aggregate-copy-if c = search needs
+slice-aggregate-store : tie.Need-slice-aggregate-store
+slice-aggregate-store c = search needs
 
-copy-if-requires : tie.Need-copy-if-requires
-copy-if-requires c κs = search needs
+store-requires : tie.Need-store-requires
+store-requires c κs = search needs
 
-slice-aggregate-copy-if-2 : tie.Need-slice-aggregate-copy-if-2
-slice-aggregate-copy-if-2 c = search needs
+slice-aggregate-store-2 : tie.Need-slice-aggregate-store-2
+slice-aggregate-store-2 c = search needs
 
-copy-if-requires-2 : tie.Need-copy-if-requires-2
-copy-if-requires-2 c κs = search needs
+store-requires-2 : tie.Need-store-requires-2
+store-requires-2 c κs = search needs
 
 same-length : tie.Need-same-length
 same-length c = search needs
@@ -30,7 +31,10 @@ same-length-2 : tie.Need-same-length-2
 same-length-2 c = search needs
 
 returns : tie.Need-returns
-returns c = record { result = refl; state = rw (c .before .before .before .before .before .before .before .before .before .before .before .encode .ensures) at (c .before .before .before .before .before .before .before .copy-if .ensures); reply = rw (c .before .before .before .before .before .before .before .before .before .before .encode2 .ensures) at (c .before .before .copy-if2 .ensures) }
+returns c = let a = c .before .before .before .before .before .before .before .before .before .before .before .before .before .before .before .before .before .args in finished (a .o) (a .state .now) (a .reply .now) _ _ _ _ _ refl (c .before .before .before .before .before .before .before .before .before .before .before .before .before .before .if1 .taken) (c .before .before .before .before .before .before .before .before .before .before .before .encode .ensures) (c .before .before .before .before .before .before .before .before .before .before .encode2 .ensures) (c .before .before .before .before .before .before .before .store .ensures) (c .before .before .store2 .ensures)
+
+returns-2 : tie.Need-returns-2
+returns-2 c = let a = c .before .before .before .args in not-finished (a .o) (a .state .now) (a .reply .now) _ refl (c .if1 .left)
 
 pub finish-spec : {M : Type 1} → statement M
 finish-spec =
@@ -38,10 +42,11 @@ finish-spec =
     (tie.spec
     encode-requires
     encode-requires-2
-    slice-aggregate-copy-if
-    copy-if-requires
-    slice-aggregate-copy-if-2
-    copy-if-requires-2
+    slice-aggregate-store
+    store-requires
+    slice-aggregate-store-2
+    store-requires-2
     same-length
     same-length-2
-    returns)
+    returns
+    returns-2)

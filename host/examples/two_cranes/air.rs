@@ -1,0 +1,95 @@
+//! The air between the two cranes: every frame reaches every station, and frames that overlap may spoil one another.
+
+/// Who sends and hears. The last two are devices of another make on crane B; they follow a script and have no driver of ours.
+#[derive(Clone, Copy, Debug, PartialEq, Eq)]
+pub enum Who {
+    HubA,
+    CellA,
+    HubB,
+    CellB,
+    HandsetB,
+    ReaderB,
+}
+
+impl Who {
+    pub fn name(self) -> &'static str {
+        match self {
+            Who::HubA => "hub A",
+            Who::CellA => "cell A",
+            Who::HubB => "hub B",
+            Who::CellB => "cell B",
+            Who::HandsetB => "handset B",
+            Who::ReaderB => "reader B",
+        }
+    }
+
+    fn on_crane_a(self) -> bool {
+        matches!(self, Who::HubA | Who::CellA)
+    }
+}
+
+pub const MICROSECOND: u64 = 1_000;
+/// From the antenna that sends to the radio that notices: 2 µs for every pair.
+pub const DELAY: u64 = 2 * MICROSECOND;
+/// Preamble, start of frame and length: six bytes at 250 kbit/s.
+pub const BEFORE_BYTES: u64 = 192 * MICROSECOND;
+pub const BYTE: u64 = 32 * MICROSECOND;
+pub const CHECKSUM: u16 = 2;
+
+/// A frame on its way, with the times at which it is heard. The checksum is the radios' affair and not among the bytes.
+pub struct Flying {
+    pub from: Who,
+    pub begin: u64,
+    pub end: u64,
+    pub bytes: Vec<u8>,
+}
+
+impl Flying {
+    pub fn length(&self) -> u16 {
+        self.bytes.len() as u16
+    }
+
+    pub fn length_with_checksum(&self) -> u16 {
+        self.length() + CHECKSUM
+    }
+}
+
+#[derive(Default)]
+pub struct Air {
+    pub frames: Vec<Flying>,
+}
+
+impl Air {
+    /// A frame begins to leave an antenna now. Gives its place in the list and when it has left.
+    pub fn send(&mut self, from: Who, now: u64, bytes: Vec<u8>) -> (usize, u64) {
+        let lasts = BEFORE_BYTES + BYTE * (bytes.len() as u64 + u64::from(CHECKSUM));
+        let begin = now + DELAY;
+        let end = begin + lasts;
+        self.frames.push(Flying { from, begin, end, bytes });
+        (self.frames.len() - 1, now + lasts)
+    }
+
+    /// Crane B's devices stand close together and hear one another loudly. On crane A the spreader's steel is in the way, and hub A
+    /// hears its own cell no louder than crane B.
+    fn loudness(from: Who, to: Who) -> u8 {
+        if from.on_crane_a() || to.on_crane_a() {
+            1
+        } else {
+            2
+        }
+    }
+
+    /// Whether a frame arrives with a wrong checksum: another one overlaps it and is at least as loud.
+    pub fn spoiled(&self, id: usize, to: Who) -> bool {
+        let this = &self.frames[id];
+        let loud = Self::loudness(this.from, to);
+        let overlaps = |other: &Flying| other.begin < this.end && this.begin < other.end;
+        let mut others = self.frames.iter().enumerate().filter(|(place, _)| *place != id);
+        others.any(|(_, other)| overlaps(other) && Self::loudness(other.from, to) >= loud)
+    }
+
+    /// What a channel check finds.
+    pub fn is_busy(&self, now: u64) -> bool {
+        self.frames.iter().any(|frame| frame.begin <= now && now < frame.end)
+    }
+}

@@ -1,0 +1,303 @@
+"""Compares the declarations of the exported functions: include/widosha.h, the source crates/driver_c/src/lib.rt, host/src/ffi.rs and
+the table of docs/LAYOUTS.md. Names, argument names, their order, widths and results have to agree, and no function may be missing
+anywhere. So do the three lengths.
+
+    compare.py              compares; a difference is printed and ends with 1
+    compare.py --self-test  mutates the text of each declaration, one change at a time, and checks that each change is found
+"""
+import re
+import sys
+
+SOURCES = {
+    "header": "include/widosha.h",
+    "source": "crates/driver_c/src/lib.rt",
+    "host": "host/src/ffi.rs",
+    "table": "docs/LAYOUTS.md",
+}
+SLICES = [("state", "slice"), ("reply", "slice"), ("pool", "slice")]
+WIDTHS = ("u8", "u16", "u32", "u64")
+LENGTHS = ("STATE", "REPLY", "BUFFER")
+
+
+class Unreadable(Exception):
+    pass
+
+
+class Declaration:
+    """A function as it stands in a text: its name, parameters and result, each with its place."""
+
+    def __init__(self, name, parameters, result):
+        self.name, self.parameters, self.result = name, parameters, result
+
+
+class Piece:
+    """Text with its place: (start, end) in the whole."""
+
+    def __init__(self, text, start):
+        stripped = text.strip()
+        self.start = start + text.index(stripped) if stripped else start
+        self.text, self.end = stripped, self.start + len(stripped)
+
+
+def blank(match):
+    """A comment as so many spaces, so that places stay."""
+    return re.sub(r"[^\n]", " ", match.group())
+
+
+def pieces(text, start, separator=","):
+    """The parts between separators that stand in no bracket."""
+    found, depth, begin = [], 0, 0
+    for place, letter in enumerate(text):
+        depth += (letter in "([{") - (letter in ")]}")
+        if letter == separator and depth == 0:
+            found.append(Piece(text[begin:place], start + begin))
+            begin = place + 1
+    found.append(Piece(text[begin:], start + begin))
+    return [piece for piece in found if piece.text]
+
+
+def declarations(text, pattern, name_group, parameters_group, result_group):
+    found = []
+    for match in re.finditer(pattern, text):
+        name = Piece(match.group(name_group), match.start(name_group))
+        result = Piece(match.group(result_group), match.start(result_group))
+        parameters = pieces(match.group(parameters_group), match.start(parameters_group))
+        found.append(Declaration(name, parameters, result))
+    return found
+
+
+def read_header(text):
+    text = re.sub(r"/\*.*?\*/|//[^\n]*", blank, text, flags=re.S)
+    found = declarations(text, r"(\w+)\s+(widosha_\w+)\s*\(([^)]*)\)\s*;", 2, 3, 1)
+    expect_all(found, len(re.findall(r"\bwidosha_\w*", text)))
+    return found
+
+
+def read_source(text):
+    text = re.sub(r"//[^\n]*", blank, text)
+    pattern = r'#\[no_mangle\]\s*pub\s+extern\s+"C"\s+fn\s+(\w+)\s*\(([^)]*)\)\s*->\s*(\w+)'
+    found = declarations(text, pattern, 1, 2, 3)
+    expect_all(found, len(re.findall(r"no_mangle", text)))
+    expect_all(found, len(re.findall(r'\bextern\s+"C"\s+fn\b', text)))
+    return found
+
+
+def read_host(text):
+    text = re.sub(r"//[^\n]*", blank, text)
+    block = re.search(r'unsafe extern "C" \{(.*?)\n\}', text, flags=re.S)
+    if not block:
+        raise Unreadable("no block of declarations")
+    found = declarations(text, r"\bfn\s+(\w+)\s*\(([^)]*)\)\s*->\s*(\w+)\s*;", 1, 2, 3)
+    expect_all(found, len(re.findall(r"\bfn\b", text)))
+    return found
+
+
+def read_table(text):
+    """The rows of the table give the numbers; slices and result are what the text above the table says of every function."""
+    found = []
+    for match in re.finditer(r"^\| (`)(widosha_\w+)` \| (.*?) \|$", text, flags=re.M):
+        parameters = [] if match.group(3) == "none" else pieces(match.group(3), match.start(3))
+        found.append(Declaration(Piece(match.group(2), match.start(2)), parameters, None))
+    return found
+
+
+def expect_all(found, number):
+    if len(found) != number:
+        raise Unreadable("%d declarations, but %d functions named" % (len(found), number))
+
+
+READERS = {"header": read_header, "source": read_source, "host": read_host, "table": read_table}
+
+
+def in_header(parameter):
+    match = re.fullmatch(r"(uint(8|16|32|64)_t|size_t)\s*(\*?)\s*(\w+)", parameter)
+    if not match:
+        raise Unreadable(parameter)
+    width = "u" + match.group(2) if match.group(2) else "size"
+    return match.group(4), ("pointer to " if match.group(3) else "") + width
+
+
+def in_source(parameter):
+    match = re.fullmatch(r"(\w+)\s*:\s*(.+)", parameter, flags=re.S)
+    if not match:
+        raise Unreadable(parameter)
+    kind = " ".join(match.group(2).split())
+    if kind not in WIDTHS + ("&mut [u8]",):
+        raise Unreadable(parameter)
+    return match.group(1), "slice" if kind == "&mut [u8]" else kind
+
+
+def in_host(parameter):
+    match = re.fullmatch(r"(\w+)\s*:\s*(.+)", parameter, flags=re.S)
+    kinds = {"*mut u8": "pointer to u8", "usize": "size"}
+    kind = kinds.get(match.group(2), match.group(2)) if match else None
+    if kind not in WIDTHS + tuple(kinds.values()):
+        raise Unreadable(parameter)
+    return match.group(1), kind
+
+
+def in_table(parameter):
+    match = re.fullmatch(r"(\w+) \((8|16|32|64)(?:| bits|: 0 or 1)\)", parameter)
+    if not match:
+        raise Unreadable(parameter)
+    return match.group(1), "u" + match.group(2)
+
+
+FORMS = {"header": in_header, "source": in_source, "host": in_host, "table": in_table}
+
+
+def fold(arguments):
+    """A pointer and, next to it, its length are one slice."""
+    folded = []
+    for name, kind in arguments:
+        last = folded[-1] if folded else ("", "")
+        if kind == "size" and last[1] == "pointer to u8" and name == last[0] + "_len":
+            folded[-1] = (last[0], "slice")
+        else:
+            folded.append((name, kind))
+    return folded
+
+
+def signatures(which, text):
+    """Function name to (arguments, result), each in words that all four texts share."""
+    found = {}
+    for declaration in READERS[which](text):
+        arguments = fold([FORMS[which](parameter.text) for parameter in declaration.parameters])
+        if which == "table":
+            arguments, result = arguments + SLICES, "u8"
+        else:
+            result = {"uint8_t": "u8"}.get(declaration.result.text, declaration.result.text)
+        name = declaration.name.text
+        if name in found:
+            raise Unreadable("%s is declared twice" % name)
+        found[name] = (arguments, result)
+    if not found:
+        raise Unreadable("no function at all")
+    return found
+
+
+def lengths(texts):
+    """Where each of the three lengths is stated: (which, text) to number."""
+    stated = {}
+    for name in LENGTHS:
+        stated["header", name] = re.findall(r"#define WIDOSHA_%s_LENGTH (\d+)\n" % name, texts["header"])
+        stated["host", name] = re.findall(r"pub const %s_LENGTH: usize = (\d+);\n" % name, texts["host"])
+    table = texts["table"]
+    stated["table", "STATE"] = re.findall(r"the state\n?\s*\((\d+) bytes\)", table) + re.findall(r"## The state's (\d+) bytes", table)
+    stated["table", "REPLY"] = re.findall(r"the reply \((\d+) bytes\)", table) + re.findall(r"## The reply's (\d+) bytes", table)
+    stated["table", "BUFFER"] = re.findall(r"the pool \((\d+) × n bytes\)", table)
+    return stated
+
+
+def differences(texts):
+    """What does not agree, in sentences; empty if all does."""
+    found, read = [], {}
+    for which in SOURCES:
+        try:
+            read[which] = signatures(which, texts[which])
+        except Unreadable as what:
+            found.append("%s cannot be read: %s" % (SOURCES[which], what))
+    names = sorted({name for each in read.values() for name in each})
+    for name in names:
+        held = {which: read[which].get(name) for which in read}
+        if len({repr(signature) for signature in held.values()}) > 1:
+            lines = ["    %s: %s" % (SOURCES[which], shown(signature)) for which, signature in held.items()]
+            found.append("%s differs:\n%s" % (name, "\n".join(lines)))
+    stated = lengths(texts)
+    for name in LENGTHS:
+        numbers = {which: stated[which, name] for which in ("header", "host", "table")}
+        if not all(numbers.values()) or len({number for each in numbers.values() for number in each}) != 1:
+            found.append("length of %s differs: %s" % (name.lower(), numbers))
+    return found
+
+
+def shown(signature):
+    if signature is None:
+        return "missing"
+    arguments, result = signature
+    return "(%s) -> %s" % (", ".join("%s: %s" % argument for argument in arguments), result)
+
+
+# ---- The self-test
+
+
+def replaced(text, start, end, by):
+    return text[:start] + by + text[end:]
+
+
+def other_width(text):
+    """The same parameter or result with another width or kind."""
+    match = re.search(r"(?<=uint)(8|16|32|64)(?=_t)|(?<=\bu)(8|16|32|64)\b|(?<=\()(8|16|32|64)\b|\bsize_t|\busize", text)
+    word = {"8": "16", "16": "32", "32": "64", "64": "8", "size_t": "uint64_t", "usize": "u64"}[match.group()]
+    return replaced(text, match.start(), match.end(), word)
+
+
+def mutations_of(which, text, declaration):
+    """(what, mutated text) for each single change of one declaration."""
+    name, parameters = declaration.name, declaration.parameters
+    yield "rename", replaced(text, name.start, name.end, name.text + "x")
+    if declaration.result:
+        result = declaration.result
+        yield "result", replaced(text, result.start, result.end, other_width(result.text))
+    for place, each in enumerate(parameters):
+        yield "width of %s" % each.text, replaced(text, each.start, each.end, other_width(each.text))
+        label = re.match(r"\w+", each.text) if which != "header" else re.search(r"\w+$", each.text)
+        start = each.start + label.start()
+        yield "name of %s" % each.text, replaced(text, start, start + len(label.group()), label.group() + "x")
+        if place + 1 < len(parameters):
+            after = parameters[place + 1]
+            swapped = after.text + text[each.end:after.start] + each.text
+            yield "drop %s" % each.text, replaced(text, each.start, after.start, "")
+            yield "swap %s" % each.text, replaced(text, each.start, after.end, swapped)
+        else:
+            before = parameters[place - 1].end if place else each.start
+            yield "drop %s" % each.text, replaced(text, before, each.end, "" if place or which != "table" else "none")
+
+
+def mutations_of_lengths(which, text):
+    patterns = {
+        "header": r"(?<=_LENGTH )\d+",
+        "host": r"(?<=usize = )\d+",
+        "table": r"(?<=the state\n\()\d+|(?<=the reply \()\d+|(?<=the pool \()\d+|(?<=## The state's )\d+|(?<=## The reply's )\d+",
+    }
+    for match in re.finditer(patterns.get(which, r"(?!)"), text):
+        number = str(int(match.group()) + 1)
+        yield "length %s" % match.group(), replaced(text, match.start(), match.end(), number)
+
+
+def self_test(texts):
+    tried, missed = 0, []
+    for which in SOURCES:
+        text = texts[which]
+        mutated = list(mutations_of_lengths(which, text))
+        for declaration in READERS[which](text):
+            for what, changed in mutations_of(which, text, declaration):
+                mutated.append(("%s: %s" % (declaration.name.text, what), changed))
+        for what, changed in mutated:
+            tried += 1
+            if changed == text or not differences(dict(texts, **{which: changed})):
+                missed.append("%s: %s" % (SOURCES[which], what))
+    return tried, missed
+
+
+def main():
+    texts = {}
+    for which, path in SOURCES.items():
+        try:
+            with open(path, encoding="utf-8") as file:
+                texts[which] = file.read()
+        except OSError as error:
+            sys.exit("%s: %s" % (path, error.strerror))
+    found = differences(texts)
+    if found:
+        print("\n".join(found))
+        sys.exit(1)
+    if sys.argv[1:] == ["--self-test"]:
+        tried, missed = self_test(texts)
+        print("\n".join("not found: " + each for each in missed) or "each of %d changes is found" % tried)
+        sys.exit(1 if missed or tried < 500 else 0)
+    functions = signatures("header", texts["header"])
+    print("%d functions and %d lengths agree in %s" % (len(functions), len(LENGTHS), ", ".join(SOURCES.values())))
+
+
+main()

@@ -3,7 +3,9 @@
 use Prim.Native.Nat.{ℕ}
 use mathlib.Core.Path.{_≡_}
 use mathlib.Core.List.{List}
+use lib.ListN.{length}
 use Rattle.radio_frame.specs.declared.Settings.{Settings}
+use Rattle.radio_frame.specs.Settings.{settingsRefusal}
 use Rattle.tasks.specs.declared.Call.{Call}
 use Rattle.tasks.specs.declared.State.{State}
 use Rattle.driver.specs.declared.Outcome.{Outcome}
@@ -27,5 +29,8 @@ pub record Stepped (s : State) (pool : List ℕ) (c : Call) (r : Outcome) (writt
 pub record Started (set : Settings) (pool : List ℕ) (r : Outcome) (written : List ℕ) : Type 0 where
   pub returns : r ≡ startOf set pool
   pub writes : written ≡ startPool set pool
+  -- the first demand: the refusal is the first of 2, 3 and 4 that holds, and a refused start writes nothing
+  pub refuses : r .refusal ≡ settingsRefusal set (length pool)
+  pub unchanged : (r .refusal ≡ 0 → ⊥) → written ≡ pool
   -- the third demand: on every list of calls that follows
   pub always-sound : AlwaysSound set r

@@ -1,16 +1,16 @@
 -- What the book's invariant says of a state: its buffers and its open tokens are different; so it is valid.
 -- Assumes nothing.
 use Prim.Native.Nat.{ℕ, _+_, _*_, _<_, _≤_}
-use mathlib.Core.Path.{_≡_, refl, sym, _∙_, ap}
-use mathlib.Core.Bool.{Bool, true, false, not, _&&_}
+use mathlib.Core.Path.{_≡_, refl, ap}
+use mathlib.Core.Bool.{true, not, _&&_}
 use mathlib.Core.List.{List, [], _∷_, _++_}
 use mathlib.Core.Logic.{_⊎_, inl, inr}
-use lib.Dec.{eqb, ltb}
+use lib.Dec.{eqb}
 use native.Mathlib.Omega.{arith}
 use borrow.Author.Tests.{eq-eqb, ne-eqb, lt-ltb}
 use Rattle.radio_frame.specs.declared.AckSeqNum.{AckSeqNum}
 use Rattle.radio_frame.specs.declared.Settings.{Settings}
-use Rattle.radio_frame.specs.Settings.{Fit, settingsRefusal}
+use Rattle.radio_frame.specs.Settings.{settingsRefusal}
 use Rattle.radio_frame.proofs.Laws.{zero-if-fit}
 use Rattle.tasks.specs.declared.Asked.{Asked}
 use Rattle.tasks.specs.declared.Left.{Left}
@@ -23,7 +23,7 @@ use Rattle.tasks.specs.declared.Wait.{Wait}
 use Rattle.tasks.specs.Requests.{leftSlot, nextSlot, askedSlot, stopSlot, transitionSlots, pendingOf}
 use Rattle.driver.specs.Book.{Book, one, count}
 use Rattle.driver.proofs.Count.{one-self}
-use Rattle.driver.proofs.Owed.{Owed, leftOwed, nextOwed, askedOwed, stopOwed, transitionOwed, waitOwed, numbers, token, buffer, buffers, own}
+use Rattle.driver.proofs.Owed.{leftOwed, nextOwed, waitOwed, numbers, token, buffer, own}
 use Rattle.driver.proofs.Kept.{Kept}
 use Rattle.state_bytes.specs.Parts.{askedPart, leftPart, txPart, nextPart, stopPart, transitionParts, waitParts}
 use Rattle.state_bytes.specs.Valid.{slotFits, differsFrom, slotsDiffer, validState, StateFits}

@@ -5,59 +5,61 @@ use Prim.Native.Nat.{ℕ, _^_, _<_}
 use mathlib.Core.Path.{_≡_, refl, sym, _∙_, ap}
 use mathlib.Core.Bool.{Bool, true, false, cond, _&&_}
 use mathlib.Core.List.{List, [], _∷_}
-use lib.Dec.{eqb, ltb}
+use lib.Dec.{eqb}
 use lib.ListN.{length}
 use native.Mathlib.Omega.{arith}
-use borrow.Author.Tests.{eq-eqb, eqb-true, eqb-false}
+use borrow.Author.Tests.{eqb-true, eqb-false}
 use Rattle.util.specs.Bytes.{AllBytes}
-use Rattle.radio_frame.specs.declared.Settings.{Settings}
 use Rattle.radio_frame.specs.Settings.{settingsRefusal}
 use Rattle.radio_frame.proofs.Laws.{zero-if-fit}
 use Rattle.tasks.specs.declared.Asked.{Asked}
-use Rattle.tasks.specs.declared.Answers.{Answers}
 use Rattle.tasks.specs.declared.Call.{Call}
 use Rattle.tasks.specs.declared.Cause.{Cause}
 use Rattle.tasks.specs.declared.Reply.{Reply}
 use Rattle.tasks.specs.declared.State.{State}
 use Rattle.tasks.specs.declared.TaskResult.{TaskResult}
+use Rattle.tasks.specs.declared.Timestamp.{Timestamp}
 use Rattle.tasks.specs.declared.Wait.{Wait}
-use Rattle.driver.specs.declared.Outcome.{Outcome}
 use Rattle.driver.specs.Step.{moveOf, stepOf, startOf}
-use Rattle.driver.specs.Book.{Book, bookStep, startBook, Sound}
+use Rattle.driver.specs.Book.{Book, bookStep, startBook}
 use Rattle.driver.proofs.Kept.{Kept, sound}
 use Rattle.driver.proofs.History.{step-keeps, own-differ, started, accepted-start}
 use Rattle.state_bytes.specs.Layout.{stateAt, writtenState}
 use Rattle.state_bytes.specs.Parts.{waitParts, askedPart}
-use Rattle.state_bytes.specs.Valid.{accepted}
+use Rattle.state_bytes.specs.Valid.{holdsState}
 use Rattle.state_bytes.proofs.Picked.{picked}
-use Rattle.state_bytes.proofs.RoundTrip.{reads-back, accepts}
-use Rattle.reply_bytes.specs.Reply.{answersAt, writtenReply, CauseFits}
-use Rattle.reply_bytes.proofs.ReadBack.{answers-read-back}
+use Rattle.state_bytes.proofs.RoundTrip.{reads-back, held}
+use Rattle.reply_bytes.specs.Reply.{replyAt, writtenReply, TimestampFits, CauseFits}
+use Rattle.reply_bytes.proofs.ReadBack.{reply-reads-back}
 use Rattle.driver_c.specs.declared.ExportedCall.{ExportedCall}
 use Rattle.driver_c.specs.declared.StartNumbers.{StartNumbers}
-use Rattle.driver_c.specs.Codes.{resultTable, resultAt, causeTable, causeAt, knownOf, callOf, settingsOf}
-use Rattle.driver_c.specs.Calls.{lengthsFit, formOk, orFive, unknownOf, madeOutcome, ifAccepted, callResult, callState, callReply, unknownStart, begunOutcome, startResult, startState}
-use Rattle.driver_c.specs.Lists.{replyAt, ByteTurn, ByteMoment, byteTurn, afterBytes, NumbersFit, TurnsFit, StartFits, ByteSound, AlwaysByteSound}
+use Rattle.driver_c.specs.Codes.{knownFlag, timestampTable, timestampOf, resultTable, resultOf, causeTable, causeOf, knownOf, callOf, settingsOf}
+use Rattle.driver_c.specs.Calls.{slicesFit, formOk, orFive, unknownOf, madeOutcome, callResult, callState, callReply, unknownStart, begunOutcome, startResult, startState}
+use Rattle.driver_c.specs.Lists.{StateSlice, last, other, handed, leftBy, ByteTurn, ByteMoment, byteTurn, afterBytes, NumbersFit, SliceFits, TurnFits, TurnsFit, StartFits, ByteSound, AlwaysByteSound}
 use Rattle.driver_c.proofs.Slices.{state-length}
 use Rattle.driver_c.proofs.Ranges.{ResultIn, CallIn, SettingsIn, StateIn, MoveIn, step-in}
 use Rattle.driver_c.proofs.Apart.{valid, fits}
 
 -- ---- The numbers of an exported call are in range as the engine's
-result-in : (length time code : ℕ) → time < 2 ^ 64 → ResultIn (resultAt length time code)
-unfolding resultAt
+result-in : (length time code : ℕ) → time < 2 ^ 64 → ResultIn (resultOf length time code)
+unfolding resultOf
 result-in length time code t =
-    picked (λ (r : TaskResult). ResultIn r) (resultTable length time) _ code (tt, (t, (t, (tt, tt)))) t
+    picked (λ (r : TaskResult). ResultIn r) (resultTable length time) _ code (tt, (t, (t, (tt, (t, tt))))) t
 
-cause-in : (time code : ℕ) → time < 2 ^ 64 → CauseFits (causeAt time code)
-unfolding causeAt
-cause-in time code t = picked (λ (x : Cause). CauseFits x) (causeTable time) Cause.Task code (tt, (t, tt)) tt
+start-in : (time code : ℕ) → time < 2 ^ 64 → TimestampFits (timestampOf time code)
+unfolding timestampOf
+start-in time code t = picked (λ (x : Timestamp). TimestampFits x) (timestampTable time) (Timestamp.Scheduled time) code (tt, (t, tt)) t
+
+cause-in : (time code : ℕ) → time < 2 ^ 64 → CauseFits (causeOf time code)
+unfolding causeOf
+cause-in time code t = picked (λ (x : Cause). CauseFits x) (causeTable time) Cause.Task code (tt, (t, (tt, tt))) tt
 
 call-in : (x : ExportedCall) → NumbersFit x → CallIn (callOf x)
 unfolding callOf
-call-in (ExportedCall.Request token direction start time buffer length cca) N = N .0
+call-in (ExportedCall.Request token direction start time buffer length cca) N = (N .0, start-in time start (N .1))
 call-in ExportedCall.None N = tt
 call-in ExportedCall.FrameStart N = tt
-call-in (ExportedCall.OutboundSeen start time cca) N = tt
+call-in (ExportedCall.OutboundSeen start time cca) N = start-in time start N
 call-in (ExportedCall.Stopped outcome length time) N = tt
 call-in (ExportedCall.Header arrived length) N = tt
 call-in (ExportedCall.Entered result length time entry) N = result-in length time result (N .1)
@@ -72,9 +74,26 @@ record Inv (m : ByteMoment) : Type 0 where
   kept : Kept engine (m .book)
 
 -- a refused call leaves state slice and book
-left-alone : (m : ByteMoment) (t : ByteTurn) → eqb (callResult (m .state) (t .reply) (t .pool) (t .call)) 0 ≡ false → byteTurn m t ≡ m
+left-alone : (m : ByteMoment) (t : ByteTurn) → eqb (callResult (handed (m .state) (t .slice)) (t .reply) (t .pool) (t .call)) 0 ≡ false → byteTurn m t ≡ m
 unfolding byteTurn callState bookStep
-left-alone m t e = rw e
+left-alone m t e = rw e (go (t .slice))
+  where
+    go : (h : StateSlice) → record { state = leftBy (m .state) (handed (m .state) h) h; book = m .book } ≡ m
+    go last = refl
+    go (other bytes) = refl
+
+and-false : (a : Bool) → (a && false) ≡ false
+and-false true = refl
+and-false false = refl
+
+-- a wrong state slice is refused
+wrong-slice : (st re po : List ℕ) (x : ExportedCall) → formOk st 48 ≡ false → callResult st re po x ≡ 1
+unfolding callResult formOk slicesFit
+wrong-slice st re po x h = go (eqb (length re) 48) refl
+  where
+    go : (t : Bool) → eqb (length re) 48 ≡ t → callResult st re po x ≡ 1
+    go true e = let w : ((eqb (length st) 64 && true) && holdsState st) ≡ false = h in simp (e, w)
+    go false e = simp (e, and-false (eqb (length st) 64))
 
 five-or-more : (k : ℕ) → orFive k ≡ 0 → ⊥
 five-or-more k = go (eqb k 0) refl
@@ -83,7 +102,7 @@ five-or-more k = go (eqb k 0) refl
     go true e h = let z : _≡_ {A = ℕ} 5 0 = rw e at h in absurd (omega arith)
     go false e h = eqb-false k 0 e (rw e at h)
 
--- an accepted call has a form that is right and codes that stand for something
+-- an holdsState call has a form that is right and codes that stand for something
 right-form : (st re po : List ℕ) (x : ExportedCall) → callResult st re po x ≡ 0 → formOk st (length re) ≡ true
 unfolding callResult
 right-form st re po x h = go (formOk st (length re)) refl
@@ -99,12 +118,6 @@ right-code s po x h = go (knownOf x) refl
     go : (t : Bool) → knownOf x ≡ t → knownOf x ≡ true
     go true e = e
     go false e = absurd (five-or-more (settingsRefusal (s .set) (length po)) (rw e at h))
-
--- the book takes the same answers from the reply and from its bytes
-same-book : (b : Book) (po : List ℕ) (c : Call) (k : ℕ) (r : Reply) → answersAt (writtenReply r) ≡ r .answers
-    → bookStep b po c k (replyAt (writtenReply r)) ≡ bookStep b po c k r
-unfolding bookStep
-same-book b po c k r e = rw e
 
 module _ (s : State) (b : Book) (re po : List ℕ) (x : ExportedCall) (S : StateIn s) (K : Kept s b) (N : NumbersFit x) (A : AllBytes po) (h : callResult (writtenState s) re po x ≡ 0) where
   form : formOk (writtenState s) (length re) ≡ true
@@ -139,7 +152,11 @@ module _ (s : State) (b : Book) (re po : List ℕ) (x : ExportedCall) (S : State
   next-book : bookStep b po (callOf x) (callResult (writtenState s) re po x) (replyAt (callReply (writtenState s) re po x))
       ≡ bookStep b po (callOf x) (stepOf s po (callOf x) .refusal) (stepOf s po (callOf x) .reply)
   unfolding stepOf
-  next-book = rw (next-reply, refusal) (same-book b po (callOf x) _ (stepOf s po (callOf x) .reply) (answers-read-back (stepOf s po (callOf x) .reply) (moves .answers)))
+  next-book = rw (next-reply, refusal, reply-reads-back (stepOf s po (callOf x) .reply) (moves .reply))
+
+  read-back : replyAt (callReply (writtenState s) re po x) ≡ stepOf s po (callOf x) .reply
+  unfolding stepOf
+  read-back = ap replyAt next-reply ∙ reply-reads-back (stepOf s po (callOf x) .reply) (moves .reply)
 
   keeps : Inv (record { state = callState (writtenState s) re po x; book = bookStep b po (callOf x) (callResult (writtenState s) re po x) (replyAt (callReply (writtenState s) re po x)) })
   unfolding stepOf
@@ -151,27 +168,39 @@ module _ (s : State) (b : Book) (re po : List ℕ) (x : ExportedCall) (S : State
         kept = rw next-book (step-keeps s b po (callOf x) K);
       }
 
-turn-keeps : (m : ByteMoment) (t : ByteTurn) → Inv m → NumbersFit (t .call) → AllBytes (t .pool) → Inv (byteTurn m t)
+-- a call on the slice that the last one left
+last-keeps : (m : ByteMoment) (x : ExportedCall) (re po : List ℕ) → Inv m → NumbersFit x → AllBytes po
+    → Inv (byteTurn m (record { call = x; slice = last; reply = re; pool = po }))
 unfolding byteTurn
-turn-keeps m t I N A = go (eqb (callResult (m .state) (t .reply) (t .pool) (t .call)) 0) refl
+last-keeps m x re po I N A = go (eqb (callResult (m .state) re po x) 0) refl
   where
-    go : (f : Bool) → eqb (callResult (m .state) (t .reply) (t .pool) (t .call)) 0 ≡ f → Inv (byteTurn m t)
-    go true e = rw (I .written) (keeps (I .engine) (m .book) (t .reply) (t .pool) (t .call) (I .inside) (I .kept) N A (rw (I .written) at (eqb-true (callResult (m .state) (t .reply) (t .pool) (t .call)) 0 e)))
-    go false e = rw (left-alone m t e) I
+    go : (f : Bool) → eqb (callResult (m .state) re po x) 0 ≡ f → Inv (byteTurn m (record { call = x; slice = last; reply = re; pool = po }))
+    go true e = rw (I .written) (keeps (I .engine) (m .book) re po x (I .inside) (I .kept) N A (rw (I .written) at (eqb-true (callResult (m .state) re po x) 0 e)))
+    go false e = rw (left-alone m (record { call = x; slice = last; reply = re; pool = po }) e) I
+
+turn-keeps : (m : ByteMoment) (t : ByteTurn) → Inv m → TurnFits t → Inv (byteTurn m t)
+turn-keeps m t I F = go (t .slice) (F .1)
+  where
+    go : (h : StateSlice) → SliceFits h → Inv (byteTurn m (record { call = t .call; slice = h; reply = t .reply; pool = t .pool }))
+    go last w = last-keeps m (t .call) (t .reply) (t .pool) I (F .0) (F .2)
+    go (other bytes) w =
+        let one : callResult bytes (t .reply) (t .pool) (t .call) ≡ 1 = wrong-slice bytes (t .reply) (t .pool) (t .call) w in
+        rw (left-alone m (record { call = t .call; slice = other bytes; reply = t .reply; pool = t .pool }) (rw one)) I
 
 list-keeps : (ts : List ByteTurn) (m : ByteMoment) → Inv m → TurnsFit ts → Inv (afterBytes m ts)
 unfolding afterBytes
 list-keeps [] m I F = I
-list-keeps (t ∷ ts) m I F = list-keeps ts (byteTurn m t) (turn-keeps m t I (F .0 .0) (F .0 .1)) (F .1)
+list-keeps (t ∷ ts) m I F = list-keeps ts (byteTurn m t) (turn-keeps m t I (F .0)) (F .1)
 
 -- ---- The claims follow
 byte-sound : (m : ByteMoment) → Inv m → ByteSound m
-unfolding formOk lengthsFit
+unfolding formOk slicesFit
 byte-sound m I =
     let s = I .engine in
     record {
-      valid = rw (I .written) (simp (state-length s, accepts s (fits s (I .inside)) (valid s (m .book) (I .inside) (I .kept))));
+      valid = rw (I .written) (simp (state-length s, held s (fits s (I .inside)) (valid s (m .book) (I .inside) (I .kept))));
       sound = rw (I .written, reads-back s (fits s (I .inside))) (sound s (m .book) (I .kept));
+      replies = λ re po x N A h. rw (I .written, reads-back s (fits s (I .inside))) (read-back s (m .book) re po x (I .inside) (I .kept) N A (rw (I .written) at h));
     }
 
 -- ---- Start
@@ -196,11 +225,11 @@ two-or-three true h = absurd (omega arith)
 two-or-three false h = absurd (omega arith)
 
 module _ (n : StartNumbers) (st re po : List ℕ) (h : startResult n st re po ≡ 0) where
-  start-form : lengthsFit (length st) (length re) ≡ true
+  start-form : slicesFit (length st) (length re) ≡ true
   unfolding startResult
-  start-form = go (lengthsFit (length st) (length re)) refl
+  start-form = go (slicesFit (length st) (length re)) refl
     where
-      go : (t : Bool) → lengthsFit (length st) (length re) ≡ t → lengthsFit (length st) (length re) ≡ true
+      go : (t : Bool) → slicesFit (length st) (length re) ≡ t → slicesFit (length st) (length re) ≡ true
       go true e = e
       go false e = let z : _≡_ {A = ℕ} 1 0 = rw e at h in absurd (omega arith)
 
@@ -208,11 +237,11 @@ module _ (n : StartNumbers) (st re po : List ℕ) (h : startResult n st re po �
   unfolding startResult
   begun = rw start-form at h
 
-  start-code : ltb (n .«implicit_broadcast») 2 ≡ true
+  start-code : knownFlag (n .«implicit_broadcast») ≡ true
   unfolding begunOutcome unknownStart
-  start-code = go (ltb (n .«implicit_broadcast») 2) refl
+  start-code = go (knownFlag (n .«implicit_broadcast»)) refl
     where
-      go : (t : Bool) → ltb (n .«implicit_broadcast») 2 ≡ t → ltb (n .«implicit_broadcast») 2 ≡ true
+      go : (t : Bool) → knownFlag (n .«implicit_broadcast») ≡ t → knownFlag (n .«implicit_broadcast») ≡ true
       go true e = e
       go false e = absurd (two-or-three (eqb (settingsRefusal (settingsOf n) (length po)) 2) (rw e at begun))
 

@@ -1,4 +1,4 @@
--- Every number of a state stays in its range, and so does every number of an accepted call's answers.
+-- Every number of a state stays in its range, and so does every number of an holdsState call's answers.
 -- Assumes nothing.
 use Prim.Native.Nat.{ℕ, zero, suc, _+_, _^_, _<_, _≤_}
 use mathlib.Core.Path.{_≡_, refl}
@@ -8,7 +8,7 @@ use mathlib.Core.List.{List, [], _∷_}
 use lib.Dec.{eqb, ltb, leb}
 use lib.ListN.{getD, take, drop}
 use native.Mathlib.Omega.{arith}
-use borrow.Author.Tests.{eqb-true, ltb-false, leb-false}
+use borrow.Author.Tests.{eqb-true, ltb-true, ltb-false, leb-false}
 use Rattle.util.specs.Bytes.{AllBytes}
 use Rattle.util.proofs.Numbers.{byte-at}
 use Rattle.phy.specs.declared.Ifs.{Ifs}
@@ -34,28 +34,30 @@ use Rattle.tasks.specs.declared.Request.{Request}
 use Rattle.tasks.specs.declared.Response.{Response}
 use Rattle.tasks.specs.declared.RxResult.{RxResult}
 use Rattle.tasks.specs.declared.RxTask.{RxTask}
+use Rattle.tasks.specs.declared.Spacing.{Spacing}
 use Rattle.tasks.specs.declared.State.{State}
 use Rattle.tasks.specs.declared.Stop.{Stop}
 use Rattle.tasks.specs.declared.StopResult.{StopResult}
 use Rattle.tasks.specs.declared.Task.{Task}
 use Rattle.tasks.specs.declared.TaskResult.{TaskResult}
+use Rattle.tasks.specs.declared.Timestamp.{Timestamp}
 use Rattle.tasks.specs.declared.Transition.{Transition}
 use Rattle.tasks.specs.declared.TxTask.{TxTask}
 use Rattle.tasks.specs.declared.Wait.{Wait}
-use Rattle.tasks.specs.Requests.{tokenHeld, bufferHeld, lengthUnfit, notAllowed, allowedOf, requestRefusal}
+use Rattle.tasks.specs.Requests.{tokenHeld, bufferHeld, lengthUnfit, requestRefusal}
 use Rattle.tasks.specs.Results.{receivedUnfit, receivedRefusal, leaveOff, leaveReceiving, leaveSending, leaveSendingAck, ackResponse, ackReceived, leaveReceivingAck, leaveOf}
 use Rattle.moves.specs.declared.Move.{Move}
 use Rattle.moves.specs.Move.{refusedOf, guardedOf}
-use Rattle.asking.specs.Asking.{departureOf, nextOf, requestOf, noneOf, askingOf}
-use Rattle.entering.specs.Entering.{sendingMove, arrivalOf, requestEntered, withSpare, rearmEntered, ackTurnEntered, ackWaitStarted, ackWaitEntered, enteredOf, thenError, requestFellBack, fellBackOf, offRolledBack, requestRolledBack, rolledBackOf, enteringOf}
-use Rattle.listening.specs.Listening.{listeningOf, frameStopped, outboundStopped, ackFailed, ackStopped, stoppedOf, stoppingOf}
+use Rattle.asking.specs.Asking.{departureOf, nextOf, requestAction, requestOf, noneOf, askingOf}
+use Rattle.entering.specs.Entering.{sendingMove, arrivalOf, requestEntered, rearmEntered, ackTurnEntered, ackWaitStarted, ackWaitEntered, enteredOf, thenError, requestFellBack, fellBackOf, offRolledBack, requestRolledBack, rolledBackOf, enteringOf}
+use Rattle.listening.specs.Listening.{stopBefore, listeningOf, frameStopped, outboundStopped, ackFailed, ackStopped, stoppedOf, stoppingOf}
 use Rattle.reading.specs.Reading.{requested, rearmMove, receiveMove, headerMove, headerOf, readingOf}
 use Rattle.driver.specs.Step.{waitMove, moveOf}
 use Rattle.driver.proofs.Kept.{stateAt}
 use Rattle.driver.proofs.Table.{moveTo, passed, neither}
 use Rattle.state_bytes.specs.declared.Part.{Part}
 use Rattle.state_bytes.specs.Parts.{noTask, rxTask, partOf, askedPart, leftPart, txPart, nextPart, stopPart, transitionParts, waitParts}
-use Rattle.reply_bytes.specs.Reply.{CauseFits, ReceivedFits, AnswerFits, AnswersFit}
+use Rattle.reply_bytes.specs.Reply.{TimestampFits, ActionFits, CauseFits, ReceivedFits, AnswerFits, AnswersFit, ReplyFits}
 
 -- ---- Ranges
 
@@ -84,7 +86,7 @@ pub record StateIn (s : State) : Type 0 where
 
 pub record MoveIn (m : Move) : Type 0 where
   pub state : StateIn (m .state)
-  pub answers : AnswersFit (m .reply .answers)
+  pub reply : ReplyFits (m .reply)
 
 -- the numbers of a call
 abbrev pub ReceivedIn : RxResult → Type 0
@@ -98,10 +100,10 @@ ResultIn (TaskResult.Sent t) = t < 2 ^ 64
 ResultIn (TaskResult.Rx r) = ReceivedIn r
 
 abbrev pub CallIn : Call → Type 0
-CallIn (Call.Request q) = q .token < 2 ^ 32
+CallIn (Call.Request q) = (q .token < 2 ^ 32) × TimestampFits (q .start)
 CallIn Call.None = Unit {0}
 CallIn Call.FrameStart = Unit {0}
-CallIn (Call.OutboundSeen start cca) = Unit {0}
+CallIn (Call.OutboundSeen start cca) = TimestampFits start
 CallIn (Call.Stopped r) = Unit {0}
 CallIn (Call.Header arrived length) = Unit {0}
 CallIn (Call.Entered r entry) = ResultIn r
@@ -121,7 +123,7 @@ take-bytes (suc k) (b ∷ l) A = (A .0, take-bytes k l (A .1))
 
 -- ---- Refusals
 refused-in : (s : State) (k : ℕ) → StateIn s → MoveIn (refusedOf s k)
-refused-in s k S = record { state = S; answers = tt }
+refused-in s k S = record { state = S; reply = record { action = tt; answers = tt } }
 
 guard-in : (s : State) (k : ℕ) (m : Move) → StateIn s → (k ≡ 0 → MoveIn m) → MoveIn (guardedOf s k m)
 unfolding guardedOf
@@ -151,8 +153,8 @@ module _ (set : Settings) (S : SettingsIn set) (pool : List ℕ) (A : AllBytes p
   receives : (q : RxTask) (code spacing : ℕ) → q .token < 2 ^ 32 → q .buffer < n → PartIn n (partOf code (rxTask q) 0 spacing 0)
   receives q code spacing t b = (t, b, omega arith, omega arith, omega arith)
 
-  to : {action : Action} {k : AckSeqNum} (w : Wait) (x : Answers) → WaitIn n w → AnswersFit x → MoveIn (moveTo set w action x k)
-  to w x W F = record { state = record { set = S; wait = W }; answers = F }
+  to : {action : Action} {k : AckSeqNum} (w : Wait) (x : Answers) → ActionFits action → WaitIn n w → AnswersFit x → MoveIn (moveTo set w action x k)
+  to w x a W F = record { state = record { set = S; wait = W }; reply = record { action = a; answers = F } }
 
   module _ (w : Wait) (W : WaitIn n w) where
     here : StateIn (stateAt set w)
@@ -202,16 +204,22 @@ module _ (set : Settings) (S : SettingsIn set) (pool : List ℕ) (A : AllBytes p
       (omega (arith, ltb-false 127 (l + set .«fcs_length») long))
   next-in q Task.Rx t b h = (t, b, omega arith, omega arith, omega arith)
 
-  request-in : (a : Asked) (q : Request) → PartIn n (askedPart a) → q .token < 2 ^ 32 → MoveIn (requestOf (stateAt set (Wait.Asking a)) pool a q)
+  action-in : (q : Request) (spacing : Spacing) (task : Task) → TimestampFits (q .start) → lengthUnfit set task ≡ false → ActionFits (requestAction q spacing task)
+  unfolding requestAction lengthUnfit
+  action-in q spacing (Task.Tx l cca) t h =
+      (omega (arith, ltb-false 127 (l + set .«fcs_length») (neither (ltb l 3) (ltb 127 (l + set .«fcs_length»)) h .1)), t)
+  action-in q spacing Task.Rx t h = t
+
+  request-in : (a : Asked) (q : Request) → PartIn n (askedPart a) → q .token < 2 ^ 32 → TimestampFits (q .start) → MoveIn (requestOf (stateAt set (Wait.Asking a)) pool a q)
   unfolding requestOf requestRefusal waitParts transitionParts
-  request-in a q K t =
+  request-in a q K t st =
       guard (Wait.Asking a) (K, nothing 0 0) _ _
       (λ ok.
       let six = passed (tokenHeld (Wait.Asking a) (q .token)) 6 _ (omega arith) ok in
       let seven = passed (leb n (q .buffer) || bufferHeld (stateAt set (Wait.Asking a)) (q .buffer)) 7 _ (omega arith) (six .1) in
       let eight = passed (lengthUnfit set (q .task)) 8 _ (omega arith) (seven .1) in
       let below = leb-false n (q .buffer) (neither (leb n (q .buffer)) _ (seven .0) .0) in
-      to (Wait.Entering (Transition.Request (departureOf set a .left) (nextOf set pool q (q .task)))) (departureOf set a .answers)
+      to (Wait.Entering (Transition.Request (departureOf set a .left) (nextOf set pool q (q .task)))) (departureOf set a .answers) (action-in q (departureOf set a .spacing) (q .task) st (eight .0))
       (left-in a K, next-in q (q .task) t (omega (arith, below)) (eight .0))
       (given-in a K))
 
@@ -219,15 +227,15 @@ module _ (set : Settings) (S : SettingsIn set) (pool : List ℕ) (A : AllBytes p
   unfolding noneOf askedPart leftPart nextPart waitParts transitionParts
   none-in Asked.Idle K = refuse (Wait.Asking Asked.Idle) (K, nothing 0 0) 5
   none-in (Asked.AfterWindow q) K = refuse (Wait.Asking (Asked.AfterWindow q)) (K, nothing 0 0) 5
-  none-in (Asked.AfterAckWindow q t) K = to (Wait.Asking Asked.Idle) _ (nothing 0 0, nothing 0 0) (record { token = K .0; response = K .4 })
-  none-in (Asked.Receiving q i) K = to (Wait.Entering (Transition.Request (Left.Receiving q) Next.Off)) _ (K, nothing 0 0) tt
-  none-in (Asked.Sending q) K = to (Wait.Entering (Transition.Request (Left.Sending q) Next.Off)) _ (K, nothing 0 0) tt
-  none-in (Asked.SendingAck i) K = to (Wait.Entering (Transition.Request Left.SendingAck Next.Off)) _ (nothing 3 0, nothing 0 0) tt
-  none-in (Asked.ReceivingAck a) K = to (Wait.Entering (Transition.Request (Left.ReceivingAck a) Next.Off)) _ (K, nothing 0 0) tt
+  none-in (Asked.AfterAckWindow q t) K = to (Wait.Asking Asked.Idle) _ tt (nothing 0 0, nothing 0 0) (record { token = K .0; response = K .4 })
+  none-in (Asked.Receiving q i) K = to (Wait.Entering (Transition.Request (Left.Receiving q) Next.Off)) _ tt (K, nothing 0 0) tt
+  none-in (Asked.Sending q) K = to (Wait.Entering (Transition.Request (Left.Sending q) Next.Off)) _ tt (K, nothing 0 0) tt
+  none-in (Asked.SendingAck i) K = to (Wait.Entering (Transition.Request Left.SendingAck Next.Off)) _ tt (nothing 3 0, nothing 0 0) tt
+  none-in (Asked.ReceivingAck a) K = to (Wait.Entering (Transition.Request (Left.ReceivingAck a) Next.Off)) _ tt (K, nothing 0 0) tt
 
   asking-in : (a : Asked) (c : Call) → PartIn n (askedPart a) → CallIn c → MoveIn (askingOf (stateAt set (Wait.Asking a)) pool a c)
   unfolding askingOf waitParts
-  asking-in a (Call.Request q) K C = request-in a q K C
+  asking-in a (Call.Request q) K C = request-in a q K (C .0) (C .1)
   asking-in a Call.None K C = none-in a K
   asking-in a Call.FrameStart K C = refuse (Wait.Asking a) (K, nothing 0 0) 5
   asking-in a (Call.OutboundSeen start cca) K C = refuse (Wait.Asking a) (K, nothing 0 0) 5
@@ -269,10 +277,10 @@ module _ (set : Settings) (S : SettingsIn set) (pool : List ℕ) (A : AllBytes p
 
   arrive-in : (m : Next) (x : Answers) → PartIn n (nextPart m) → AnswersFit x → MoveIn (arrivalOf set x m)
   unfolding arrivalOf sendingMove nextPart txPart waitParts transitionParts askedPart
-  arrive-in (Next.Tx q (AckSeqNum.Is k)) x K F = to (Wait.Entering (Transition.AckWait q k)) x (K, nothing 0 0) F
-  arrive-in (Next.Tx q AckSeqNum.None) x K F = to (Wait.Asking (Asked.Sending q)) x (K, nothing 0 0) F
-  arrive-in (Next.Rx q) x K F = to (Wait.Listening q) x (K, nothing 0 0) F
-  arrive-in Next.Off x K F = to (Wait.Asking Asked.Idle) x (nothing 0 0, nothing 0 0) F
+  arrive-in (Next.Tx q (AckSeqNum.Is k)) x K F = to (Wait.Entering (Transition.AckWait q k)) x tt (K, nothing 0 0) F
+  arrive-in (Next.Tx q AckSeqNum.None) x K F = to (Wait.Asking (Asked.Sending q)) x tt (K, nothing 0 0) F
+  arrive-in (Next.Rx q) x K F = to (Wait.Listening q) x tt (K, nothing 0 0) F
+  arrive-in Next.Off x K F = to (Wait.Asking Asked.Idle) x tt (nothing 0 0, nothing 0 0) F
 
   then-in : (q : TxTask) (cause : Cause) (x : Answers) → q .token < 2 ^ 32 → CauseFits cause → AnswersFit x → AnswersFit (thenError q cause x)
   unfolding thenError
@@ -281,7 +289,7 @@ module _ (set : Settings) (S : SettingsIn set) (pool : List ℕ) (A : AllBytes p
   then-in q cause (Answers.Two a b) t C F = F
 
   entered-in : (e : Transition) (r : TaskResult) (entry : ℕ) → WaitIn n (Wait.Entering e) → ResultIn r → MoveIn (enteredOf (stateAt set (Wait.Entering e)) pool r entry e)
-  unfolding enteredOf requestEntered rearmEntered ackTurnEntered ackWaitEntered ackWaitStarted leaveOf leaveReceiving waitParts transitionParts askedPart stopPart leftPart
+  unfolding enteredOf requestEntered rearmEntered ackTurnEntered ackWaitEntered ackWaitStarted latestAckStartOf leaveOf leaveReceiving waitParts transitionParts askedPart stopPart leftPart
   entered-in (Transition.Request l m) r entry W R =
       guard (Wait.Entering (Transition.Request l m)) W _ _ (λ ok. arrive-in m (leaveOf set pool r l .answers) (W .1) (leave-in l r (W .0) R ok))
   entered-in (Transition.Rearm q) r entry W R =
@@ -293,28 +301,29 @@ module _ (set : Settings) (S : SettingsIn set) (pool : List ℕ) (A : AllBytes p
               set = record { low = S .low; high = S .high; headroom = S .headroom; tailroom = S .tailroom; fcs = S .fcs; address = S .address; pan = S .pan; ack = S .ack; spare = W .0 .1 };
               wait = ((W .0 .0, S .spare, omega arith, omega arith, omega arith), nothing 0 0);
             };
-        answers = tt;
+        reply = record { action = tt; answers = tt };
       })
   entered-in (Transition.AckTurn q i) r entry W R =
       guard (Wait.Entering (Transition.AckTurn q i)) W _ _
-      (λ ok. to (Wait.Asking (Asked.SendingAck i)) (leaveReceiving set q r .answers) (nothing 5 0, nothing 0 0) (leave-in (Left.Receiving q) r (W .0) R ok))
+      (λ ok. to (Wait.Asking (Asked.SendingAck i)) (leaveReceiving set q r .answers) tt (nothing 5 0, nothing 0 0) (leave-in (Left.Receiving q) r (W .0) R ok))
   entered-in (Transition.AckWait q k) TaskResult.Off entry W R = refuse (Wait.Entering (Transition.AckWait q k)) W 5
-  entered-in (Transition.AckWait q k) (TaskResult.Sent t) entry W R = go (latestAckStartOf entry)
+  entered-in (Transition.AckWait q k) (TaskResult.Sent t) entry W R = go (ltb (entry + 10000) (2 ^ 64)) refl
     where
-      go : (l : LatestAckStart) → MoveIn (ackWaitStarted (stateAt set (Wait.Entering (Transition.AckWait q k))) (record { task = q; number = k; time = t }) l)
-      go (LatestAckStart.At u) =
-          to (Wait.Stopping (Stop.Ack (record { task = q; number = k; time = t }))) Answers.None ((W .0 .0, W .0 .1, W .0 .2, W .0 .3, R), nothing 0 0) tt
-      go LatestAckStart.Exceeds = refuse (Wait.Entering (Transition.AckWait q k)) W 11
+      go : (f : Bool) → ltb (entry + 10000) (2 ^ 64) ≡ f
+          → MoveIn (ackWaitStarted (stateAt set (Wait.Entering (Transition.AckWait q k))) (record { task = q; number = k; time = t }) (cond f (LatestAckStart.At (entry + 10000)) LatestAckStart.Exceeds))
+      go true u =
+          to (Wait.Stopping (Stop.Ack (record { task = q; number = k; time = t }))) Answers.None (ltb-true (entry + 10000) (2 ^ 64) u) ((W .0 .0, W .0 .1, W .0 .2, W .0 .3, R), nothing 0 0) tt
+      go false u = refuse (Wait.Entering (Transition.AckWait q k)) W 11
   entered-in (Transition.AckWait q k) (TaskResult.Rx x) entry W R = refuse (Wait.Entering (Transition.AckWait q k)) W 5
 
   fell-back-in : (e : Transition) (r : TaskResult) (cause : Cause) → WaitIn n (Wait.Entering e) → ResultIn r → CauseFits cause → MoveIn (fellBackOf (stateAt set (Wait.Entering e)) pool r cause e)
   unfolding fellBackOf requestFellBack waitParts transitionParts nextPart txPart askedPart
   fell-back-in (Transition.Request l (Next.Tx q AckSeqNum.None)) r cause W R C =
       guard (Wait.Entering (Transition.Request l (Next.Tx q AckSeqNum.None))) W _ _
-      (λ ok. to (Wait.Asking Asked.Idle) _ (nothing 0 0, nothing 0 0) (then-in q cause _ (W .1 .0) C (leave-in l r (W .0) R ok)))
+      (λ ok. to (Wait.Asking Asked.Idle) _ tt (nothing 0 0, nothing 0 0) (then-in q cause _ (W .1 .0) C (leave-in l r (W .0) R ok)))
   fell-back-in (Transition.Request l (Next.Tx q (AckSeqNum.Is k))) r cause W R C =
       guard (Wait.Entering (Transition.Request l (Next.Tx q (AckSeqNum.Is k)))) W _ _
-      (λ ok. to (Wait.Asking Asked.Idle) _ (nothing 0 0, nothing 0 0) (then-in q cause _ (W .1 .0) C (leave-in l r (W .0) R ok)))
+      (λ ok. to (Wait.Asking Asked.Idle) _ tt (nothing 0 0, nothing 0 0) (then-in q cause _ (W .1 .0) C (leave-in l r (W .0) R ok)))
   fell-back-in (Transition.Request l (Next.Rx q)) r cause W R C = refuse (Wait.Entering (Transition.Request l (Next.Rx q))) W 5
   fell-back-in (Transition.Request l Next.Off) r cause W R C = refuse (Wait.Entering (Transition.Request l Next.Off)) W 5
   fell-back-in (Transition.Rearm q) r cause W R C = refuse (Wait.Entering (Transition.Rearm q)) W 5
@@ -326,12 +335,12 @@ module _ (set : Settings) (S : SettingsIn set) (pool : List ℕ) (A : AllBytes p
   rolled-back-in (Transition.Request Left.Off m) W = refuse (Wait.Entering (Transition.Request Left.Off m)) W 5
   rolled-back-in (Transition.Request (Left.Receiving q) (Next.Tx p k)) W = refuse (Wait.Entering (Transition.Request (Left.Receiving q) (Next.Tx p k))) W 5
   rolled-back-in (Transition.Request (Left.Receiving q) (Next.Rx p)) W = refuse (Wait.Entering (Transition.Request (Left.Receiving q) (Next.Rx p))) W 5
-  rolled-back-in (Transition.Request (Left.Receiving q) Next.Off) W = to (Wait.Listening q) Answers.None (W .0, nothing 0 0) tt
+  rolled-back-in (Transition.Request (Left.Receiving q) Next.Off) W = to (Wait.Listening q) Answers.None tt (W .0, nothing 0 0) tt
   rolled-back-in (Transition.Request (Left.Sending q) m) W = refuse (Wait.Entering (Transition.Request (Left.Sending q) m)) W 5
   rolled-back-in (Transition.Request Left.SendingAck m) W = refuse (Wait.Entering (Transition.Request Left.SendingAck m)) W 5
   rolled-back-in (Transition.Request (Left.ReceivingAck a) m) W = refuse (Wait.Entering (Transition.Request (Left.ReceivingAck a) m)) W 5
   rolled-back-in (Transition.Rearm q) W = refuse (Wait.Entering (Transition.Rearm q)) W 5
-  rolled-back-in (Transition.AckTurn q i) W = to (Wait.Listening q) Answers.None (W .0, nothing 0 0) tt
+  rolled-back-in (Transition.AckTurn q i) W = to (Wait.Listening q) Answers.None tt (W .0, nothing 0 0) tt
   rolled-back-in (Transition.AckWait q k) W = refuse (Wait.Entering (Transition.AckWait q k)) W 5
 
   entering-in : (e : Transition) (c : Call) → WaitIn n (Wait.Entering e) → CallIn c → MoveIn (enteringOf (stateAt set (Wait.Entering e)) pool e c)
@@ -347,36 +356,41 @@ module _ (set : Settings) (S : SettingsIn set) (pool : List ℕ) (A : AllBytes p
   entering-in e Call.Rollback W C = rolled-back-in e W
 
   -- ---- Listening, its end, and the header
-  listening-in : (q : RxTask) (c : Call) → WaitIn n (Wait.Listening q) → MoveIn (listeningOf (stateAt set (Wait.Listening q)) q c)
+  stop-before-in : (cca : Bool) (start : Timestamp) → TimestampFits start → ActionFits (Action.Stop (stopBefore cca start))
+  unfolding stopBefore
+  stop-before-in cca Timestamp.BestEffort F = tt
+  stop-before-in cca (Timestamp.Scheduled t) F = F
+
+  listening-in : (q : RxTask) (c : Call) → WaitIn n (Wait.Listening q) → CallIn c → MoveIn (listeningOf (stateAt set (Wait.Listening q)) q c)
   unfolding listeningOf waitParts stopPart
-  listening-in q (Call.Request r) W = refuse (Wait.Listening q) W 5
-  listening-in q Call.None W = refuse (Wait.Listening q) W 5
-  listening-in q Call.FrameStart W = to (Wait.Stopping (Stop.Frame q)) Answers.None (W .0, nothing 0 0) tt
-  listening-in q (Call.OutboundSeen start cca) W = to (Wait.Stopping (Stop.Outbound q)) Answers.None (W .0, nothing 0 0) tt
-  listening-in q (Call.Stopped r) W = refuse (Wait.Listening q) W 5
-  listening-in q (Call.Header arrived length) W = refuse (Wait.Listening q) W 5
-  listening-in q (Call.Entered r entry) W = refuse (Wait.Listening q) W 5
-  listening-in q (Call.Fallback r cause) W = refuse (Wait.Listening q) W 5
-  listening-in q Call.Rollback W = refuse (Wait.Listening q) W 5
+  listening-in q (Call.Request r) W C = refuse (Wait.Listening q) W 5
+  listening-in q Call.None W C = refuse (Wait.Listening q) W 5
+  listening-in q Call.FrameStart W C = to (Wait.Stopping (Stop.Frame q)) Answers.None tt (W .0, nothing 0 0) tt
+  listening-in q (Call.OutboundSeen start cca) W C = to (Wait.Stopping (Stop.Outbound q)) Answers.None (stop-before-in cca start C) (W .0, nothing 0 0) tt
+  listening-in q (Call.Stopped r) W C = refuse (Wait.Listening q) W 5
+  listening-in q (Call.Header arrived length) W C = refuse (Wait.Listening q) W 5
+  listening-in q (Call.Entered r entry) W C = refuse (Wait.Listening q) W 5
+  listening-in q (Call.Fallback r cause) W C = refuse (Wait.Listening q) W 5
+  listening-in q Call.Rollback W C = refuse (Wait.Listening q) W 5
 
   stopped-in : (p : Stop) (r : StopResult) → WaitIn n (Wait.Stopping p) → MoveIn (stoppedOf (stateAt set (Wait.Stopping p)) r p)
   unfolding stoppedOf frameStopped outboundStopped ackStopped ackFailed waitParts stopPart askedPart
-  stopped-in (Stop.Frame q) StopResult.FrameStarted W = to (Wait.Reading q) Answers.None (W .0, nothing 0 0) tt
+  stopped-in (Stop.Frame q) StopResult.FrameStarted W = to (Wait.Reading q) Answers.None tt (W .0, nothing 0 0) tt
   stopped-in (Stop.Frame q) (StopResult.RxWindowEnded x) W = refuse (Wait.Stopping (Stop.Frame q)) W 5
   stopped-in (Stop.Frame q) StopResult.Failed W = refuse (Wait.Stopping (Stop.Frame q)) W 5
-  stopped-in (Stop.Outbound q) StopResult.FrameStarted W = to (Wait.Reading q) Answers.None (W .0, nothing 0 0) tt
+  stopped-in (Stop.Outbound q) StopResult.FrameStarted W = to (Wait.Reading q) Answers.None tt (W .0, nothing 0 0) tt
   stopped-in (Stop.Outbound q) (StopResult.RxWindowEnded x) W =
-      guard (Wait.Stopping (Stop.Outbound q)) W _ _ (λ ok. to (Wait.Asking (Asked.AfterWindow q)) Answers.None (W .0, nothing 0 0) tt)
-  stopped-in (Stop.Outbound q) StopResult.Failed W = to (Wait.Listening q) Answers.None (W .0, nothing 0 0) tt
-  stopped-in (Stop.Ack a) StopResult.FrameStarted W = to (Wait.Asking (Asked.ReceivingAck a)) Answers.None (W .0, nothing 0 0) tt
+      guard (Wait.Stopping (Stop.Outbound q)) W _ _ (λ ok. to (Wait.Asking (Asked.AfterWindow q)) Answers.None tt (W .0, nothing 0 0) tt)
+  stopped-in (Stop.Outbound q) StopResult.Failed W = to (Wait.Listening q) Answers.None tt (W .0, nothing 0 0) tt
+  stopped-in (Stop.Ack a) StopResult.FrameStarted W = to (Wait.Asking (Asked.ReceivingAck a)) Answers.None tt (W .0, nothing 0 0) tt
   stopped-in (Stop.Ack a) (StopResult.RxWindowEnded x) W =
       guard (Wait.Stopping (Stop.Ack a)) W _ _
-      (λ ok. to (Wait.Asking (Asked.AfterAckWindow (a .task) (a .time))) Answers.None ((W .0 .0, W .0 .1, W .0 .2, omega arith, W .0 .4), nothing 0 0) tt)
-  stopped-in (Stop.Ack a) StopResult.Failed W = to (Wait.Stopping (Stop.AckAgain a)) Answers.None (W .0, nothing 0 0) tt
-  stopped-in (Stop.AckAgain a) StopResult.FrameStarted W = to (Wait.Asking (Asked.ReceivingAck a)) Answers.None (W .0, nothing 0 0) tt
+      (λ ok. to (Wait.Asking (Asked.AfterAckWindow (a .task) (a .time))) Answers.None tt ((W .0 .0, W .0 .1, W .0 .2, omega arith, W .0 .4), nothing 0 0) tt)
+  stopped-in (Stop.Ack a) StopResult.Failed W = to (Wait.Stopping (Stop.AckAgain a)) Answers.None tt (W .0, nothing 0 0) tt
+  stopped-in (Stop.AckAgain a) StopResult.FrameStarted W = to (Wait.Asking (Asked.ReceivingAck a)) Answers.None tt (W .0, nothing 0 0) tt
   stopped-in (Stop.AckAgain a) (StopResult.RxWindowEnded x) W =
       guard (Wait.Stopping (Stop.AckAgain a)) W _ _
-      (λ ok. to (Wait.Asking (Asked.AfterAckWindow (a .task) (a .time))) Answers.None ((W .0 .0, W .0 .1, W .0 .2, omega arith, W .0 .4), nothing 0 0) tt)
+      (λ ok. to (Wait.Asking (Asked.AfterAckWindow (a .task) (a .time))) Answers.None tt ((W .0 .0, W .0 .1, W .0 .2, omega arith, W .0 .4), nothing 0 0) tt)
   stopped-in (Stop.AckAgain a) StopResult.Failed W = refuse (Wait.Stopping (Stop.AckAgain a)) W 5
 
   stopping-in : (p : Stop) (c : Call) → WaitIn n (Wait.Stopping p) → MoveIn (stoppingOf (stateAt set (Wait.Stopping p)) p c)
@@ -393,8 +407,8 @@ module _ (set : Settings) (S : SettingsIn set) (pool : List ℕ) (A : AllBytes p
 
   receive-in : (q : RxTask) (i : Ifs) (k : AckSeqNum) → WaitIn n (Wait.Reading q) → MoveIn (receiveMove set q i k)
   unfolding receiveMove waitParts transitionParts askedPart
-  receive-in q i (AckSeqNum.Is k) W = to (Wait.Entering (Transition.AckTurn q i)) Answers.None (W .0, nothing 0 0) tt
-  receive-in q i AckSeqNum.None W = to (Wait.Asking (Asked.Receiving q i)) Answers.None (W .0, nothing 0 0) tt
+  receive-in q i (AckSeqNum.Is k) W = to (Wait.Entering (Transition.AckTurn q i)) Answers.None (omega arith, tt) (W .0, nothing 0 0) tt
+  receive-in q i AckSeqNum.None W = to (Wait.Asking (Asked.Receiving q i)) Answers.None tt (W .0, nothing 0 0) tt
 
   reading-in : (q : RxTask) (c : Call) → WaitIn n (Wait.Reading q) → MoveIn (readingOf (stateAt set (Wait.Reading q)) pool q c)
   unfolding readingOf headerOf headerMove waitParts transitionParts
@@ -410,7 +424,7 @@ module _ (set : Settings) (S : SettingsIn set) (pool : List ℕ) (A : AllBytes p
 
       go : (f : Bool) (k : AckSeqNum) → MoveIn (cond f (receiveMove set q (ifsOf length) k) (rearmMove set q))
       go true k = receive-in q (ifsOf length) k W
-      go false k = to (Wait.Entering (Transition.Rearm q)) Answers.None (W .0, nothing 0 0) tt
+      go false k = to (Wait.Entering (Transition.Rearm q)) Answers.None tt (W .0, nothing 0 0) tt
   reading-in q (Call.Entered r entry) W = refuse (Wait.Reading q) W 5
   reading-in q (Call.Fallback r cause) W = refuse (Wait.Reading q) W 5
   reading-in q Call.Rollback W = refuse (Wait.Reading q) W 5
@@ -419,7 +433,7 @@ module _ (set : Settings) (S : SettingsIn set) (pool : List ℕ) (A : AllBytes p
   unfolding waitMove waitParts
   wait-in (Wait.Asking a) c W C = asking-in a c (W .0) C
   wait-in (Wait.Entering e) c W C = entering-in e c W C
-  wait-in (Wait.Listening q) c W C = listening-in q c W
+  wait-in (Wait.Listening q) c W C = listening-in q c W C
   wait-in (Wait.Stopping p) c W C = stopping-in p c W
   wait-in (Wait.Reading q) c W C = reading-in q c W
 

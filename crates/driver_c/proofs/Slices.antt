@@ -2,9 +2,9 @@
 -- Assumes nothing.
 use Prim.Native.Nat.{ℕ, _<_, _≤_}
 use mathlib.Core.Path.{_≡_, refl, sym, _∙_, ap}
-use mathlib.Core.Bool.{Bool, true, false, cond, not, _&&_}
+use mathlib.Core.Bool.{Bool, true, false, cond}
 use mathlib.Core.List.{List, _++_, append-nil}
-use lib.Dec.{eqb, ltb}
+use lib.Dec.{eqb}
 use lib.ListN.{length, take, drop}
 use lib.Seq.{take-length, drop-length}
 use borrow.Author.Tests.{eq-eqb, eqb-true, eqb-false, ne-eqb, lt-ltb, le-ltb}
@@ -14,7 +14,7 @@ use Rattle.tasks.specs.declared.Call.{Call}
 use Rattle.tasks.specs.declared.Reply.{Reply}
 use Rattle.tasks.specs.declared.State.{State}
 use Rattle.driver.specs.declared.Outcome.{Outcome}
-use Rattle.driver.specs.Step.{stepOf, stepPool, startOf, startPool}
+use Rattle.driver.specs.Step.{stepOf, startOf, startPool}
 use Rattle.driver.specs.Promises.{Stepped, Started}
 use Rattle.moves.specs.Move.{guardedOf}
 use Rattle.tasks.specs.declared.Asked.{Asked}
@@ -23,15 +23,16 @@ use Rattle.driver.specs.Refusals.{refusalOf, InOrder, RefusedUnchanged}
 use Rattle.driver.proofs.Refusals.{in-order, refused-unchanged}
 use Rattle.state_bytes.specs.declared.Decoded.{Decoded}
 use Rattle.state_bytes.specs.Layout.{stateAt, writtenState, writtenParts}
-use Rattle.state_bytes.specs.Valid.{accepted, decodedOf}
+use Rattle.state_bytes.specs.Valid.{holdsState, decodedOf}
 use Rattle.state_bytes.proofs.Same.{and-left, and-right}
 use Rattle.reply_bytes.specs.Reply.{writtenReply, writtenFields}
 use Rattle.driver_c.specs.declared.ExportedCall.{ExportedCall}
 use Rattle.driver_c.specs.declared.StartNumbers.{StartNumbers}
-use Rattle.driver_c.specs.Codes.{knownOf, callOf, settingsOf}
-use Rattle.driver_c.specs.Calls.{lengthsFit, formOk, readOf, refusedAs, unknownOf, unknownStart, madeOutcome, madePool, exportedRefusal, storedOver, Finished, ifAccepted, callResult, callState, callReply, callPool, Called, begunOutcome, begunPool, startResult, startState, startReply, startedPool}
+use Rattle.driver_c.specs.Codes.{knownFlag, knownOf, callOf, settingsOf}
+use Rattle.driver_c.specs.Calls.{slicesFit, formOk, readOf, refusedAs, unknownOf, unknownStart, madeOutcome, madePool, exportedRefusal, storedOver, Finished, ifAccepted, callResult, callState, callReply, callPool, Called, begunOutcome, begunPool, startResult, startState, startReply, startPoolAfter}
 use Rattle.driver_c.specs.Lists.{AlwaysByteSound}
-use Rattle.driver_c.specs.Started.{StartCalled}
+use Rattle.driver_c.specs.Start.{StartCalled}
+use Rattle.driver_c.proofs.Order.{start-order}
 
 -- ---- Copies
 
@@ -69,21 +70,21 @@ pub reply-length : (r : Reply) → length (writtenReply r) ≡ 48
 unfolding writtenReply writtenFields
 reply-length r = refl
 
-pub lengths : (st re : List ℕ) → lengthsFit (length st) (length re) ≡ true → (length st ≡ 64) × (length re ≡ 48)
-unfolding lengthsFit
+pub lengths : (st re : List ℕ) → slicesFit (length st) (length re) ≡ true → (length st ≡ 64) × (length re ≡ 48)
+unfolding slicesFit
 lengths st re h =
     (eqb-true _ _ (and-left (eqb (length st) 64) (eqb (length re) 48) h), eqb-true _ _ (and-right (eqb (length st) 64) (eqb (length re) 48) h))
 
 pub kept : (r : ℕ) (new old : List ℕ) → (r ≡ 0 → ⊥) → ifAccepted r new old ≡ old
 kept r new old h = simp (ne-eqb r 0 h)
 
--- where the lengths are right, an accepted outcome is written and a refused one is not
+-- where the lengths are right, an holdsState outcome is written and a refused one is not
 record Settled (o : Outcome) (st re : List ℕ) (r : ℕ) (st′ re′ : List ℕ) : Type 0 where
   result : r ≡ o .refusal
   state : st′ ≡ ifAccepted (o .refusal) (writtenState (o .state)) st
   reply : re′ ≡ ifAccepted (o .refusal) (writtenReply (o .reply)) re
 
-settled : (o : Outcome) (st re : List ℕ) (r : ℕ) (st′ re′ : List ℕ) → lengthsFit (length st) (length re) ≡ true → Finished o st re r st′ re′
+settled : (o : Outcome) (st re : List ℕ) (r : ℕ) (st′ re′ : List ℕ) → slicesFit (length st) (length re) ≡ true → Finished o st re r st′ re′
     → Settled o st re r st′ re′
 settled o st re r st′ re′ ok F =
     record {
@@ -99,17 +100,17 @@ Reads st n Decoded.Invalid = formOk st n ≡ false
 
 pub reads : (st : List ℕ) (n : ℕ) → Reads st n (readOf st n)
 unfolding readOf formOk decodedOf
-reads st n = go (lengthsFit (length st) n) (accepted st) refl refl
+reads st n = go (slicesFit (length st) n) (holdsState st) refl refl
   where
-    go : (a b : Bool) → lengthsFit (length st) n ≡ a → accepted st ≡ b
-        → Reads st n (cond (lengthsFit (length st) n) (cond (accepted st) (Decoded.Valid (stateAt st)) Decoded.Invalid) Decoded.Invalid)
+    go : (a b : Bool) → slicesFit (length st) n ≡ a → holdsState st ≡ b
+        → Reads st n (cond (slicesFit (length st) n) (cond (holdsState st) (Decoded.Valid (stateAt st)) Decoded.Invalid) Decoded.Invalid)
     go true true p q = rw (p, q) (rw (p, q), refl)
     go true false p q = rw (p, q) (rw (p, q))
     go false b p q = rw p (rw p)
 
-form-lengths : (st : List ℕ) (n : ℕ) → formOk st n ≡ true → lengthsFit (length st) n ≡ true
+form-lengths : (st : List ℕ) (n : ℕ) → formOk st n ≡ true → slicesFit (length st) n ≡ true
 unfolding formOk
-form-lengths st n h = and-left (lengthsFit (length st) n) (accepted st) h
+form-lengths st n h = and-left (slicesFit (length st) n) (holdsState st) h
 
 -- ---- The engine's call
 module _ (s : State) (po : List ℕ) (x : ExportedCall) where
@@ -142,7 +143,7 @@ module _ (s : State) (po : List ℕ) (x : ExportedCall) where
 
 -- ---- The whole call
 
--- where a refused outcome's pool is the old one, the pool is what an accepted one leaves
+-- where a refused outcome's pool is the old one, the pool is what an holdsState one leaves
 pool-settled : (po : List ℕ) (r : ℕ) (new : List ℕ) → ((r ≡ 0 → ⊥) → new ≡ po) → new ≡ ifAccepted r new po
 pool-settled po r new h = go (eqb r 0) refl
   where
@@ -229,26 +230,26 @@ module _ (n : StartNumbers) (po : List ℕ) where
   -- a refused start leaves the pool
   begun-unchanged : (begunOutcome n po .refusal ≡ 0 → ⊥) → begunPool n po ≡ po
   unfolding begunOutcome begunPool startOf startPool guardedOf
-  begun-unchanged h = go (ltb (n .«implicit_broadcast») 2) refl
+  begun-unchanged h = go (knownFlag (n .«implicit_broadcast»)) refl
     where
-      inner : (t : Bool) → eqb (settingsRefusal (settingsOf n) (length po)) 0 ≡ t → ltb (n .«implicit_broadcast») 2 ≡ true → startPool (settingsOf n) po ≡ po
+      inner : (t : Bool) → eqb (settingsRefusal (settingsOf n) (length po)) 0 ≡ t → knownFlag (n .«implicit_broadcast») ≡ true → startPool (settingsOf n) po ≡ po
       inner true e l = absurd (h (rw (l, e)))
       inner false e l = rw e
 
-      go : (t : Bool) → ltb (n .«implicit_broadcast») 2 ≡ t → begunPool n po ≡ po
+      go : (t : Bool) → knownFlag (n .«implicit_broadcast») ≡ t → begunPool n po ≡ po
       go true l = rw l (inner (eqb (settingsRefusal (settingsOf n) (length po)) 0) refl l)
       go false l = rw l
 
   module _ (st re : List ℕ) where
-    pub start-done : lengthsFit (length st) (length re) ≡ true → (o : Outcome) (r : ℕ) (st′ re′ po′ : List ℕ) → o ≡ begunOutcome n po → po′ ≡ begunPool n po
+    pub start-done : slicesFit (length st) (length re) ≡ true → (o : Outcome) (r : ℕ) (st′ re′ po′ : List ℕ) → o ≡ begunOutcome n po → po′ ≡ begunPool n po
         → Finished o st re r st′ re′ → AlwaysByteSound n (startResult n st re po) (startState n st re po) → StartCalled n st re po r st′ re′ po′
-    unfolding startResult startState startReply startedPool
+    unfolding startResult startState startReply startPoolAfter
     start-done ok o r st′ re′ po′ e p F A =
         let S = settled o st re r st′ re′ ok F in
         let R : r ≡ startResult n st re po = S .result ∙ simp (ok, e) in
         let T : st′ ≡ startState n st re po = S .state ∙ simp (ok, e) in
         let Y : re′ ≡ startReply n st re po = S .reply ∙ simp (ok, e) in
-        let Q : po′ ≡ startedPool n st re po = p ∙ pool-settled po (begunOutcome n po .refusal) (begunPool n po) begun-unchanged ∙ simp ok in
+        let Q : po′ ≡ startPoolAfter n st re po = p ∙ pool-settled po (begunOutcome n po .refusal) (begunPool n po) begun-unchanged ∙ simp ok in
         let z = startResult n st re po in
         record {
           result = R;
@@ -256,11 +257,12 @@ module _ (n : StartNumbers) (po : List ℕ) where
           reply = Y;
           pool = Q;
           unchanged = λ h. (T ∙ kept z _ st (rw R at h), Y ∙ kept z _ re (rw R at h), Q ∙ kept z _ po (rw R at h));
+          refuses = R ∙ start-order n st re po;
           always-sound = sound-of n R T A;
         }
 
-    pub start-refused : lengthsFit (length st) (length re) ≡ false → AlwaysByteSound n (startResult n st re po) (startState n st re po) → StartCalled n st re po 1 st re po
-    unfolding startResult startState startReply startedPool
+    pub start-refused : slicesFit (length st) (length re) ≡ false → AlwaysByteSound n (startResult n st re po) (startState n st re po) → StartCalled n st re po 1 st re po
+    unfolding startResult startState startReply startPoolAfter
     start-refused bad A =
         let R : 1 ≡ startResult n st re po = simp bad in
         let T : st ≡ startState n st re po = simp bad in
@@ -270,5 +272,6 @@ module _ (n : StartNumbers) (po : List ℕ) where
           reply = simp bad;
           pool = simp bad;
           unchanged = λ h. (refl, refl, refl);
+          refuses = R ∙ start-order n st re po;
           always-sound = sound-of n R T A;
         }

@@ -2,12 +2,13 @@
 -- Assumes nothing.
 use Prim.Native.Nat.{ℕ}
 use mathlib.Core.Path.{_≡_}
-use mathlib.Core.Bool.{Bool, cond, not, _&&_}
+use mathlib.Core.Bool.{Bool, true, cond, not, _&&_, _||_}
 use mathlib.Core.List.{List}
-use lib.Dec.{ltb, eqb}
+use lib.Dec.{eqb}
 use lib.ListN.{length}
+use Rattle.util.specs.Bytes.{AllBytes}
 use Rattle.radio_frame.specs.declared.Settings.{Settings}
-use Rattle.radio_frame.specs.Settings.{settingsRefusal}
+use Rattle.radio_frame.specs.Settings.{poolUnfit, lengthsUnfit, ownBuffersUnfit, settingsRefusal}
 use Rattle.tasks.specs.declared.Action.{Action}
 use Rattle.tasks.specs.declared.Answers.{Answers}
 use Rattle.tasks.specs.declared.Asked.{Asked}
@@ -18,24 +19,24 @@ use Rattle.driver.specs.Step.{stepOf, stepPool, startOf, startPool}
 use Rattle.driver.specs.Refusals.{refusalOf}
 use Rattle.state_bytes.specs.declared.Decoded.{Decoded}
 use Rattle.state_bytes.specs.Layout.{stateAt, writtenState}
-use Rattle.state_bytes.specs.Valid.{accepted, decodedOf}
+use Rattle.state_bytes.specs.Valid.{validState, holdsState, decodedOf, StateFits, WrittenFrom}
 use Rattle.reply_bytes.specs.Reply.{writtenReply}
 use Rattle.driver_c.specs.declared.ExportedCall.{ExportedCall}
 use Rattle.driver_c.specs.declared.StartNumbers.{StartNumbers}
-use Rattle.driver_c.specs.Codes.{knownOf, callOf, settingsOf}
+use Rattle.driver_c.specs.Codes.{knownFlag, knownOf, callOf, settingsOf}
 
 -- ---- Refusal 1
 
 -- "the state slice is not 64 bytes, the reply slice not 48": of the slices' lengths
-unfoldable pub lengthsFit : ℕ → ℕ → Bool
-lengthsFit state reply = eqb state 64 && eqb reply 48
+unfoldable pub slicesFit : ℕ → ℕ → Bool
+slicesFit state reply = eqb state 64 && eqb reply 48
 
 -- ".. or (except at start) the state bytes are not what some state .. is written as"
 unfoldable pub formOk : List ℕ → ℕ → Bool
-formOk st reply = lengthsFit (length st) reply && accepted st
+formOk st reply = slicesFit (length st) reply && holdsState st
 
 unfoldable pub readOf : List ℕ → ℕ → Decoded
-readOf st reply = cond (lengthsFit (length st) reply) (decodedOf st) Decoded.Invalid
+readOf st reply = cond (slicesFit (length st) reply) (decodedOf st) Decoded.Invalid
 
 -- ---- The engine's outcome
 
@@ -68,7 +69,7 @@ exportedRefusal st re po x =
 unfoldable pub storedOver : List ℕ → List ℕ → List ℕ
 storedOver new old = cond (eqb (length new) (length old)) new old
 
--- the new bytes of a slice where the call is accepted, the old ones where it is refused
+-- the new bytes of a slice where the call is holdsState, the old ones where it is refused
 abbrev pub ifAccepted : ℕ → List ℕ → List ℕ → List ℕ
 ifAccepted refusal new old = cond (eqb refusal 0) new old
 
@@ -113,13 +114,13 @@ unknownStart set pool =
 
 unfoldable pub begunOutcome : StartNumbers → List ℕ → Outcome
 begunOutcome n po =
-    cond (ltb (n .«implicit_broadcast») 2) (startOf (settingsOf n) po) (unknownStart (settingsOf n) (length po))
+    cond (knownFlag (n .«implicit_broadcast»)) (startOf (settingsOf n) po) (unknownStart (settingsOf n) (length po))
 
 unfoldable pub begunPool : StartNumbers → List ℕ → List ℕ
-begunPool n po = cond (ltb (n .«implicit_broadcast») 2) (startPool (settingsOf n) po) po
+begunPool n po = cond (knownFlag (n .«implicit_broadcast»)) (startPool (settingsOf n) po) po
 
 unfoldable pub startResult : StartNumbers → List ℕ → List ℕ → List ℕ → ℕ
-startResult n st re po = cond (lengthsFit (length st) (length re)) (begunOutcome n po .refusal) 1
+startResult n st re po = cond (slicesFit (length st) (length re)) (begunOutcome n po .refusal) 1
 
 unfoldable pub startState : StartNumbers → List ℕ → List ℕ → List ℕ → List ℕ
 startState n st re po = ifAccepted (startResult n st re po) (writtenState (begunOutcome n po .state)) st
@@ -127,5 +128,44 @@ startState n st re po = ifAccepted (startResult n st re po) (writtenState (begun
 unfoldable pub startReply : StartNumbers → List ℕ → List ℕ → List ℕ → List ℕ
 startReply n st re po = ifAccepted (startResult n st re po) (writtenReply (begunOutcome n po .reply)) re
 
-unfoldable pub startedPool : StartNumbers → List ℕ → List ℕ → List ℕ → List ℕ
-startedPool n st re po = ifAccepted (startResult n st re po) (begunPool n po) po
+unfoldable pub startPoolAfter : StartNumbers → List ℕ → List ℕ → List ℕ → List ℕ
+startPoolAfter n st re po = ifAccepted (startResult n st re po) (begunPool n po) po
+
+-- "Refusals, in checking order", of start: each condition by itself
+unfoldable pub startRefusal : StartNumbers → List ℕ → List ℕ → List ℕ → ℕ
+startRefusal n st re po =
+    cond (not (slicesFit (length st) (length re))) 1
+    (cond (poolUnfit (settingsOf n) (length po)) 2
+    (cond (lengthsUnfit (settingsOf n) || not (knownFlag (n .«implicit_broadcast»))) 3
+    (cond (ownBuffersUnfit (settingsOf n)) 4 0)))
+
+-- ---- Laws of these definitions; proofs/Laws.antt has their proofs.
+
+-- refusal 1: the form is right exactly if there are 64 and 48 bytes and some valid state is written as the state's
+pub record RightForm (st : List ℕ) (reply : ℕ) : Type 0 where
+  pub state-length : length st ≡ 64
+  pub reply-length : reply ≡ 48
+  pub written : WrittenFrom st
+
+abbrev pub FormExactly : Type 0
+FormExactly =
+    (st : List ℕ) (reply : ℕ) →
+    AllBytes st →
+    (formOk st reply ≡ true → RightForm st reply) × (RightForm st reply → formOk st reply ≡ true)
+
+-- a call whose codes stand for something, on the bytes of a valid state, is the engine's call between reading and writing
+pub record EnginesCall (s : State) (re po : List ℕ) (x : ExportedCall) : Type 0 where
+  pub result : callResult (writtenState s) re po x ≡ stepOf s po (callOf x) .refusal
+  pub state : callState (writtenState s) re po x ≡ writtenState (stepOf s po (callOf x) .state)
+  pub reply :
+      callReply (writtenState s) re po x ≡ ifAccepted (stepOf s po (callOf x) .refusal) (writtenReply (stepOf s po (callOf x) .reply)) re
+  pub pool : callPool (writtenState s) re po x ≡ stepPool s po (callOf x)
+
+abbrev pub Between : Type 0
+Between =
+    (s : State) (re po : List ℕ) (x : ExportedCall) →
+    StateFits s →
+    validState s ≡ true →
+    length re ≡ 48 →
+    knownOf x ≡ true →
+    EnginesCall s re po x

@@ -1,4 +1,4 @@
 pub mod Codes
 pub mod Calls
 pub mod Lists
-pub mod Started
+pub mod Start

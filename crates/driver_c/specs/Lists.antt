@@ -3,26 +3,36 @@
 -- Assumes nothing.
 use Prim.Native.Nat.{ℕ, _^_, _<_}
 use mathlib.Core.Path.{_≡_}
-use mathlib.Core.Bool.{true}
+use mathlib.Core.Bool.{true, false}
 use mathlib.Core.List.{List, [], _∷_}
 use Rattle.util.specs.Bytes.{AllBytes}
-use Rattle.tasks.specs.declared.Action.{Action}
-use Rattle.tasks.specs.declared.Reply.{Reply}
+use Rattle.driver.specs.Step.{stepOf}
 use Rattle.driver.specs.Book.{Book, bookStep, startBook, Sound}
 use Rattle.state_bytes.specs.Layout.{stateAt}
-use Rattle.reply_bytes.specs.Reply.{answersAt}
+use Rattle.reply_bytes.specs.Reply.{replyAt}
 use Rattle.driver_c.specs.declared.ExportedCall.{ExportedCall}
 use Rattle.driver_c.specs.declared.StartNumbers.{StartNumbers}
 use Rattle.driver_c.specs.Codes.{callOf, settingsOf}
 use Rattle.driver_c.specs.Calls.{formOk, callResult, callState, callReply}
 
--- what the book takes of a reply: its answers, as the reply's bytes have them by docs/LAYOUTS.md
-abbrev pub replyAt : List ℕ → Reply
-replyAt bytes = record { action = Action.Nothing; answers = answersAt bytes }
+-- the state slice that a call is handed: the one that the last call left, or another one
+pub data StateSlice : Type 0 where
+  last : StateSlice
+  other : List ℕ → StateSlice
 
--- one call of a list: its numbers, and reply slice and pool as it finds them, of any length and content
+abbrev pub handed : List ℕ → StateSlice → List ℕ
+handed state last = state
+handed state (other bytes) = bytes
+
+-- the state slice after a call that left `written` in the slice that it was handed: another slice is not the state
+abbrev pub leftBy : List ℕ → List ℕ → StateSlice → List ℕ
+leftBy state written last = written
+leftBy state written (other bytes) = state
+
+-- one call of a list: its numbers, and the slices as it finds them, of any length and content
 pub record ByteTurn : Type 0 where
   pub call : ExportedCall
+  pub slice : StateSlice
   pub reply : List ℕ
   pub pool : List ℕ
 
@@ -31,21 +41,23 @@ pub record ByteMoment : Type 0 where
   pub state : List ℕ
   pub book : Book
 
--- the book takes the call's numbers, the pool as found, the returned number and the reply's bytes
+-- the book takes the call's numbers, the pool as found, the returned number and the reply's bytes, read by docs/LAYOUTS.md
 unfoldable pub byteTurn : ByteMoment → ByteTurn → ByteMoment
 byteTurn m t =
+    let st = handed (m .state) (t .slice) in
     record {
-      state = callState (m .state) (t .reply) (t .pool) (t .call);
+      state = leftBy (m .state) (callState st (t .reply) (t .pool) (t .call)) (t .slice);
       book =
-          bookStep (m .book) (t .pool) (callOf (t .call)) (callResult (m .state) (t .reply) (t .pool) (t .call))
-          (replyAt (callReply (m .state) (t .reply) (t .pool) (t .call)));
+          bookStep (m .book) (t .pool) (callOf (t .call)) (callResult st (t .reply) (t .pool) (t .call))
+          (replyAt (callReply st (t .reply) (t .pool) (t .call)));
     }
 
 unfoldable pub afterBytes : ByteMoment → List ByteTurn → ByteMoment
 afterBytes m [] = m
 afterBytes m (t ∷ ts) = afterBytes (byteTurn m t) ts
 
--- ---- "Numbers are any that the arguments' types hold": a list of numbers and byte slices, and nothing more is asked of it
+-- ---- Numbers are any that the arguments' types hold, and pools hold bytes; nothing more is asked of a list, but that a state slice
+-- other than the last call's is a wrong one: of another length, or with bytes that no valid state is written as
 
 abbrev pub NumbersFit : ExportedCall → Type 0
 NumbersFit (ExportedCall.Request token direction start time buffer length cca) =
@@ -60,9 +72,16 @@ NumbersFit (ExportedCall.Fallback result length time cause causeTime) =
     (length < 2 ^ 16) × (time < 2 ^ 64) × (causeTime < 2 ^ 64)
 NumbersFit ExportedCall.Rollback = Unit {0}
 
+abbrev pub SliceFits : StateSlice → Type 0
+SliceFits last = Unit {0}
+SliceFits (other bytes) = formOk bytes 48 ≡ false
+
+abbrev pub TurnFits : ByteTurn → Type 0
+TurnFits t = NumbersFit (t .call) × SliceFits (t .slice) × AllBytes (t .pool)
+
 abbrev pub TurnsFit : List ByteTurn → Type 0
 TurnsFit [] = Unit {0}
-TurnsFit (t ∷ ts) = (NumbersFit (t .call) × AllBytes (t .pool)) × TurnsFit ts
+TurnsFit (t ∷ ts) = TurnFits t × TurnsFit ts
 
 pub record StartFits (n : StartNumbers) : Type 0 where
   pub count : n .count < 2 ^ 8
@@ -76,14 +95,21 @@ pub record StartFits (n : StartNumbers) : Type 0 where
 
 -- ---- The claims
 
--- after every call the state slice holds a valid state, and of that state and the book holds what the engine's theorem claims
+-- after every call the state slice holds a valid state; of that state and the book holds what the engine's theorem claims; and the
+-- reply of whatever call is accepted next is read back from its bytes, so that they lose nothing of it
 pub record ByteSound (m : ByteMoment) : Type 0 where
   pub valid : formOk (m .state) 48 ≡ true
   pub sound : Sound (record { state = stateAt (m .state); book = m .book })
+  pub replies :
+      (re po : List ℕ) (x : ExportedCall) →
+      NumbersFit x →
+      AllBytes po →
+      callResult (m .state) re po x ≡ 0 →
+      replyAt (callReply (m .state) re po x) ≡ stepOf (stateAt (m .state)) po (callOf x) .reply
 
 -- THE THIRD DEMAND in the exported form, of the state bytes st that a start with the numbers n left and the number r that it
--- returned: if it was accepted, then after every list of exported calls, with slices of any length and codes that stand for
--- nothing among them, each on the state slice that the last one left, the book is sound
+-- returned: if it was accepted, then after every list of exported calls, wrong slices and codes that stand for nothing among them,
+-- each on the state slice that the last one left, the book is sound
 unfoldable pub AlwaysByteSound : StartNumbers → ℕ → List ℕ → Type 0
 AlwaysByteSound n r st =
     StartFits n →

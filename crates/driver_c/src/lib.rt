@@ -3,10 +3,10 @@ ghost use mathlib.Core.Path.{_≡_};
 ghost use mathlib.Core.Bool.{cond, _&&_};
 ghost use lib.Dec.{eqb};
 ghost use lib.ListN.{length};
-ghost use Rattle.driver_c.specs.Codes.{timestampAt, taskAt, stopAt, resultAt, causeAt, knownOf, callOf, settingsOf};
-ghost use Rattle.driver_c.specs.Calls.{lengthsFit, readOf, refusedAs, unknownOf, madeOutcome, madePool, storedOver, unknownStart, begunOutcome, begunPool, Finished, Called};
+ghost use Rattle.driver_c.specs.Codes.{timestampOf, taskOf, stopOf, resultOf, causeOf, knownOf, callOf, settingsOf};
+ghost use Rattle.driver_c.specs.Calls.{slicesFit, readOf, refusedAs, unknownOf, madeOutcome, madePool, storedOver, unknownStart, begunOutcome, begunPool, Finished, Called};
 ghost use Rattle.driver_c.specs.declared.ExportedCall.{ExportedCall};
-ghost use Rattle.driver_c.specs.Started.{StartCalled};
+ghost use Rattle.driver_c.specs.Start.{StartCalled};
 use driver::Outcome;
 use radio_frame::Settings;
 use state_bytes::Decoded;
@@ -53,8 +53,8 @@ pub struct StartNumbers {
 
 // ---- What the codes stand for
 
-fn timestamp_at(code: u8, time: u64) -> Timestamp
-    ensures { λ r. ⌜ r ≡ timestampAt time code ⌝ }
+fn timestamp_of(code: u8, time: u64) -> Timestamp
+    ensures { λ r. ⌜ r ≡ timestampOf time code ⌝ }
 {
     match code {
         0 => Timestamp::BestEffort,
@@ -62,8 +62,8 @@ fn timestamp_at(code: u8, time: u64) -> Timestamp
     }
 }
 
-fn task_at(code: u8, length: u16, cca: u8) -> Task
-    ensures { λ r. ⌜ r ≡ taskAt length cca code ⌝ }
+fn task_of(code: u8, length: u16, cca: u8) -> Task
+    ensures { λ r. ⌜ r ≡ taskOf length cca code ⌝ }
 {
     match code {
         0 => Task::Tx(length, cca == 1),
@@ -71,8 +71,8 @@ fn task_at(code: u8, length: u16, cca: u8) -> Task
     }
 }
 
-fn stop_at(code: u8, length: u16, time: u64) -> StopResult
-    ensures { λ r. ⌜ r ≡ stopAt length time code ⌝ }
+fn stop_of(code: u8, length: u16, time: u64) -> StopResult
+    ensures { λ r. ⌜ r ≡ stopOf length time code ⌝ }
 {
     match code {
         0 => StopResult::FrameStarted,
@@ -83,8 +83,8 @@ fn stop_at(code: u8, length: u16, time: u64) -> StopResult
     }
 }
 
-fn result_at(code: u8, length: u16, time: u64) -> TaskResult
-    ensures { λ r. ⌜ r ≡ resultAt length time code ⌝ }
+fn result_of(code: u8, length: u16, time: u64) -> TaskResult
+    ensures { λ r. ⌜ r ≡ resultOf length time code ⌝ }
 {
     match code {
         0 => TaskResult::Off,
@@ -95,8 +95,8 @@ fn result_at(code: u8, length: u16, time: u64) -> TaskResult
     }
 }
 
-fn cause_at(code: u8, time: u64) -> Cause
-    ensures { λ r. ⌜ r ≡ causeAt time code ⌝ }
+fn cause_of(code: u8, time: u64) -> Cause
+    ensures { λ r. ⌜ r ≡ causeOf time code ⌝ }
 {
     match code {
         0 => Cause::Scheduling(Timestamp::BestEffort),
@@ -112,7 +112,7 @@ fn is_known(x: ExportedCall) -> bool
     match x {
         ExportedCall::Request(token, direction, start, time, buffer, length, cca) => util::both(
             start < 2,
-            util::either(direction == 1, util::both(direction == 0, cca < 2)),
+            util::both(direction < 2, util::either(direction == 1, cca < 2)),
         ),
         ExportedCall::None => true,
         ExportedCall::FrameStart => true,
@@ -136,29 +136,29 @@ fn call_of(x: ExportedCall) -> Call
         ExportedCall::Request(token, direction, start, time, buffer, length, cca) =>
             Call::Request(Request {
                 token: token,
-                start: timestamp_at(start, time),
+                start: timestamp_of(start, time),
                 buffer: buffer,
-                task: task_at(direction, length, cca),
+                task: task_of(direction, length, cca),
             }),
         ExportedCall::None => Call::None,
         ExportedCall::FrameStart => Call::FrameStart,
         ExportedCall::OutboundSeen(start, time, cca) => Call::OutboundSeen(
-            timestamp_at(start, time),
+            timestamp_of(start, time),
             cca == 1,
         ),
-        ExportedCall::Stopped(outcome, length, time) => Call::Stopped(stop_at(
+        ExportedCall::Stopped(outcome, length, time) => Call::Stopped(stop_of(
             outcome,
             length,
             time,
         )),
         ExportedCall::Header(arrived, length) => Call::Header(arrived, length),
         ExportedCall::Entered(result, length, time, entry) => Call::Entered(
-            result_at(result, length, time),
+            result_of(result, length, time),
             entry,
         ),
         ExportedCall::Fallback(result, length, time, cause, cause_time) => Call::Fallback(
-            result_at(result, length, time),
-            cause_at(cause, cause_time),
+            result_of(result, length, time),
+            cause_of(cause, cause_time),
         ),
         ExportedCall::Rollback => Call::Rollback,
     }
@@ -182,8 +182,8 @@ fn settings_of(n: StartNumbers) -> Settings
 
 // ---- A call between reading and writing
 
-fn lengths_fit(state: usize, reply: usize) -> bool
-    ensures { λ r. ⌜ r ≡ lengthsFit state reply ⌝ }
+fn slices_fit(state: usize, reply: usize) -> bool
+    ensures { λ r. ⌜ r ≡ slicesFit state reply ⌝ }
 {
     util::both(state == 64, reply == 48)
 }
@@ -192,7 +192,7 @@ fn lengths_fit(state: usize, reply: usize) -> bool
 fn read(state: &[u8], reply: usize) -> Decoded
     ensures { λ r. ⌜ r ≡ readOf (now (state .entry)) reply ⌝ }
 {
-    if lengths_fit(state.len(), reply) {
+    if slices_fit(state.len(), reply) {
         state_bytes::decode(state)
     } else {
         Decoded::Invalid
@@ -245,7 +245,7 @@ fn store(src: &[u8], dst: &mut [u8])
     }
 }
 
-// Writes state and reply of an accepted outcome; returns its refusal.
+// Writes state and reply of an holdsState outcome; returns its refusal.
 fn finish(o: Outcome, state: &mut [u8], reply: &mut [u8]) -> u8
     ensures { λ r. ⌜ Finished o (now (state .entry)) (now (reply .entry)) r (now (state .exit)) (now (reply .exit)) ⌝ }
 {
@@ -305,7 +305,7 @@ fn begun(n: StartNumbers, pool: &mut [u8]) -> Outcome
 fn start(n: StartNumbers, state: &mut [u8], reply: &mut [u8], pool: &mut [u8]) -> u8
     ensures { λ r. ⌜ StartCalled n (now (state .entry)) (now (reply .entry)) (now (pool .entry)) r (now (state .exit)) (now (reply .exit)) (now (pool .exit)) ⌝ }
 {
-    if lengths_fit(state.len(), reply.len()) {
+    if slices_fit(state.len(), reply.len()) {
         let o = begun(n, pool);
         finish(o, state, reply)
     } else {

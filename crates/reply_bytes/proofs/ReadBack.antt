@@ -1,13 +1,17 @@
--- The answers of a reply are read back from its bytes.
+-- A reply is read back from its bytes.
 -- Assumes nothing.
-use Prim.Native.Nat.{ℕ, _%_, _^_, _<_}
+use Prim.Native.Nat.{ℕ, _+_, _%_, _^_, _<_}
 use mathlib.Core.Path.{_≡_, refl, _∙_, ap}
-use mathlib.Core.Bool.{cond}
+use mathlib.Core.Bool.{Bool, true, false, cond}
 use lib.Dec.{eqb}
-use lib.ListN.{getD}
 use native.Mathlib.Omega.{arith}
 use Rattle.util.specs.Bytes.{numberAt}
 use Rattle.util.proofs.Numbers.{read-back}
+use Rattle.phy.specs.declared.Ifs.{Ifs}
+use Rattle.tasks.specs.declared.Action.{Action}
+use Rattle.tasks.specs.declared.Spacing.{Spacing}
+use Rattle.tasks.specs.declared.StopListening.{StopListening}
+use Rattle.tasks.specs.declared.TaskDirection.{TaskDirection}
 use Rattle.tasks.specs.declared.Answer.{Answer}
 use Rattle.tasks.specs.declared.Answers.{Answers}
 use Rattle.tasks.specs.declared.Cause.{Cause}
@@ -18,7 +22,7 @@ use Rattle.tasks.specs.declared.Timestamp.{Timestamp}
 use Rattle.reply_bytes.specs.declared.ActionFields.{ActionFields}
 use Rattle.reply_bytes.specs.declared.AnswerFields.{AnswerFields}
 use Rattle.reply_bytes.specs.declared.CameTo.{CameTo}
-use Rattle.reply_bytes.specs.Reply.{actionFields, noAnswer, schedulingFields, causeFields, receivedFields, responseFields, answerFields, firstFields, secondFields, writtenFields, writtenReply, responseAt, answerAt, answersAt, ResponseFits, AnswerFits, AnswersFit, AnswersReadBack}
+use Rattle.reply_bytes.specs.Reply.{actionFields, noAnswer, schedulingFields, causeFields, receivedFields, responseFields, answerFields, firstFields, secondFields, writtenFields, writtenReply, responseAt, answerAt, answersAt, ResponseFits, AnswerFits, AnswersFit, ifsBits, spacingBits, startBit, startTime, directionCode, stopFields, bit, spacingAt, startAt, actionFrom, actionAt, replyAt, TimestampFits, ActionFits, ReplyFits, ReplyReadsBack}
 
 -- a response from its code, length and time
 abbrev read : CameTo → Response
@@ -96,11 +100,141 @@ module _ (a : ActionFields) where
       ∙ ap (λ (z : Answer). Answers.Two z (answerAt (writtenFields a (answerFields x) (answerFields y)) 30)) (first-back a (answerFields x) (answerFields y) (F .token) (time-fits (x .response) (F .response)) ∙ fields-back x F)
       ∙ ap (λ (z : Answer). Answers.Two x z) (second-back a (answerFields x) (answerFields y) (G .token) (time-fits (y .response) (G .response)) ∙ fields-back y G)
 
-pub answers-read-back : AnswersReadBack
+answers-back : (r : Reply) → AnswersFit (r .answers) → answersAt (writtenReply r) ≡ r .answers
 unfolding writtenReply firstFields secondFields answersAt writtenFields
-answers-read-back r F = go (r .answers) F
+answers-back r F = go (r .answers) F
   where
     go : (x : Answers) → AnswersFit x → answersAt (writtenFields (actionFields (r .action)) (firstFields x) (secondFields x)) ≡ x
     go Answers.None G = refl
     go (Answers.One x) G = one-back (actionFields (r .action)) x G
     go (Answers.Two x y) G = two-back (actionFields (r .action)) x y (G .0) (G .1)
+
+-- ---- The action
+
+-- the flags of a Tx and of an Rx hold what they are made of
+abbrev flagsOf : Bool → Bool → Timestamp → Spacing → ℕ
+flagsOf cca rollback start spacing = cond cca 1 0 + cond rollback 2 0 + startBit start + spacingBits spacing
+
+tx-flags : (cca rollback : Bool) (start : Timestamp) (spacing : Spacing)
+    → (bit 0 (flagsOf cca rollback start spacing) ≡ cca)
+    × (bit 1 (flagsOf cca rollback start spacing) ≡ rollback)
+    × (startAt (flagsOf cca rollback start spacing) (startTime start) ≡ start)
+    × (spacingAt (flagsOf cca rollback start spacing) ≡ spacing)
+unfolding startBit startTime spacingBits ifsBits
+tx-flags true true Timestamp.BestEffort Spacing.None = (refl, refl, refl, refl)
+tx-flags true true Timestamp.BestEffort (Spacing.After Ifs.Aifs) = (refl, refl, refl, refl)
+tx-flags true true Timestamp.BestEffort (Spacing.After Ifs.Sifs) = (refl, refl, refl, refl)
+tx-flags true true Timestamp.BestEffort (Spacing.After Ifs.Lifs) = (refl, refl, refl, refl)
+tx-flags true true (Timestamp.Scheduled t) Spacing.None = (refl, refl, refl, refl)
+tx-flags true true (Timestamp.Scheduled t) (Spacing.After Ifs.Aifs) = (refl, refl, refl, refl)
+tx-flags true true (Timestamp.Scheduled t) (Spacing.After Ifs.Sifs) = (refl, refl, refl, refl)
+tx-flags true true (Timestamp.Scheduled t) (Spacing.After Ifs.Lifs) = (refl, refl, refl, refl)
+tx-flags true false Timestamp.BestEffort Spacing.None = (refl, refl, refl, refl)
+tx-flags true false Timestamp.BestEffort (Spacing.After Ifs.Aifs) = (refl, refl, refl, refl)
+tx-flags true false Timestamp.BestEffort (Spacing.After Ifs.Sifs) = (refl, refl, refl, refl)
+tx-flags true false Timestamp.BestEffort (Spacing.After Ifs.Lifs) = (refl, refl, refl, refl)
+tx-flags true false (Timestamp.Scheduled t) Spacing.None = (refl, refl, refl, refl)
+tx-flags true false (Timestamp.Scheduled t) (Spacing.After Ifs.Aifs) = (refl, refl, refl, refl)
+tx-flags true false (Timestamp.Scheduled t) (Spacing.After Ifs.Sifs) = (refl, refl, refl, refl)
+tx-flags true false (Timestamp.Scheduled t) (Spacing.After Ifs.Lifs) = (refl, refl, refl, refl)
+tx-flags false true Timestamp.BestEffort Spacing.None = (refl, refl, refl, refl)
+tx-flags false true Timestamp.BestEffort (Spacing.After Ifs.Aifs) = (refl, refl, refl, refl)
+tx-flags false true Timestamp.BestEffort (Spacing.After Ifs.Sifs) = (refl, refl, refl, refl)
+tx-flags false true Timestamp.BestEffort (Spacing.After Ifs.Lifs) = (refl, refl, refl, refl)
+tx-flags false true (Timestamp.Scheduled t) Spacing.None = (refl, refl, refl, refl)
+tx-flags false true (Timestamp.Scheduled t) (Spacing.After Ifs.Aifs) = (refl, refl, refl, refl)
+tx-flags false true (Timestamp.Scheduled t) (Spacing.After Ifs.Sifs) = (refl, refl, refl, refl)
+tx-flags false true (Timestamp.Scheduled t) (Spacing.After Ifs.Lifs) = (refl, refl, refl, refl)
+tx-flags false false Timestamp.BestEffort Spacing.None = (refl, refl, refl, refl)
+tx-flags false false Timestamp.BestEffort (Spacing.After Ifs.Aifs) = (refl, refl, refl, refl)
+tx-flags false false Timestamp.BestEffort (Spacing.After Ifs.Sifs) = (refl, refl, refl, refl)
+tx-flags false false Timestamp.BestEffort (Spacing.After Ifs.Lifs) = (refl, refl, refl, refl)
+tx-flags false false (Timestamp.Scheduled t) Spacing.None = (refl, refl, refl, refl)
+tx-flags false false (Timestamp.Scheduled t) (Spacing.After Ifs.Aifs) = (refl, refl, refl, refl)
+tx-flags false false (Timestamp.Scheduled t) (Spacing.After Ifs.Sifs) = (refl, refl, refl, refl)
+tx-flags false false (Timestamp.Scheduled t) (Spacing.After Ifs.Lifs) = (refl, refl, refl, refl)
+
+abbrev rxFlagsOf : Bool → Timestamp → Spacing → ℕ
+rxFlagsOf rollback start spacing = cond rollback 2 0 + startBit start + spacingBits spacing
+
+rx-flags : (rollback : Bool) (start : Timestamp) (spacing : Spacing)
+    → (bit 1 (rxFlagsOf rollback start spacing) ≡ rollback)
+    × (startAt (rxFlagsOf rollback start spacing) (startTime start) ≡ start)
+    × (spacingAt (rxFlagsOf rollback start spacing) ≡ spacing)
+unfolding startBit startTime spacingBits ifsBits
+rx-flags true Timestamp.BestEffort Spacing.None = (refl, refl, refl)
+rx-flags true Timestamp.BestEffort (Spacing.After Ifs.Aifs) = (refl, refl, refl)
+rx-flags true Timestamp.BestEffort (Spacing.After Ifs.Sifs) = (refl, refl, refl)
+rx-flags true Timestamp.BestEffort (Spacing.After Ifs.Lifs) = (refl, refl, refl)
+rx-flags true (Timestamp.Scheduled t) Spacing.None = (refl, refl, refl)
+rx-flags true (Timestamp.Scheduled t) (Spacing.After Ifs.Aifs) = (refl, refl, refl)
+rx-flags true (Timestamp.Scheduled t) (Spacing.After Ifs.Sifs) = (refl, refl, refl)
+rx-flags true (Timestamp.Scheduled t) (Spacing.After Ifs.Lifs) = (refl, refl, refl)
+rx-flags false Timestamp.BestEffort Spacing.None = (refl, refl, refl)
+rx-flags false Timestamp.BestEffort (Spacing.After Ifs.Aifs) = (refl, refl, refl)
+rx-flags false Timestamp.BestEffort (Spacing.After Ifs.Sifs) = (refl, refl, refl)
+rx-flags false Timestamp.BestEffort (Spacing.After Ifs.Lifs) = (refl, refl, refl)
+rx-flags false (Timestamp.Scheduled t) Spacing.None = (refl, refl, refl)
+rx-flags false (Timestamp.Scheduled t) (Spacing.After Ifs.Aifs) = (refl, refl, refl)
+rx-flags false (Timestamp.Scheduled t) (Spacing.After Ifs.Sifs) = (refl, refl, refl)
+rx-flags false (Timestamp.Scheduled t) (Spacing.After Ifs.Lifs) = (refl, refl, refl)
+
+tx-back : {n m : ℕ} {c c′ r r′ : Bool} {s s′ : Timestamp} {p p′ : Spacing} (b : ℕ) → n ≡ m → c ≡ c′ → s ≡ s′ → p ≡ p′ → r ≡ r′ → Action.Tx b n c s p r ≡ Action.Tx b m c′ s′ p′ r′
+tx-back b e f g h i = rw (e, f, g, h, i)
+
+rx-back : {r r′ : Bool} {s s′ : Timestamp} {p p′ : Spacing} (b : ℕ) → s ≡ s′ → p ≡ p′ → r ≡ r′ → Action.Rx b s p r ≡ Action.Rx b s′ p′ r′
+rx-back b g h i = rw (g, h, i)
+
+fields-action : (a : Action) → ActionFits a → actionFrom (actionFields a) ≡ a
+unfolding actionFrom actionFields stopFields directionCode
+fields-action Action.Nothing F = refl
+fields-action Action.ReceiveRequest F = refl
+fields-action (Action.TryReceiveRequest TaskDirection.Any) F = refl
+fields-action (Action.TryReceiveRequest TaskDirection.Outbound) F = refl
+fields-action Action.Listen F = refl
+fields-action (Action.Stop StopListening.Now) F = refl
+fields-action (Action.Stop (StopListening.At t)) F = refl
+fields-action (Action.Stop (StopListening.Before t true)) F = refl
+fields-action (Action.Stop (StopListening.Before t false)) F = refl
+fields-action Action.ReadHeader F = refl
+fields-action (Action.Tx b n cca start spacing rollback) F =
+    let f = tx-flags cca rollback start spacing in
+    let e : n % 256 ≡ n = omega (arith, F .0) in
+    tx-back b e (f .0) (f .2) (f .3) (f .1)
+fields-action (Action.Rx b start spacing rollback) F = let f = rx-flags rollback start spacing in rx-back b (f .1) (f .2) (f .0)
+fields-action (Action.Off true) F = refl
+fields-action (Action.Off false) F = refl
+
+start-time : (t : Timestamp) → TimestampFits t → startTime t < 2 ^ 64
+unfolding startTime
+start-time Timestamp.BestEffort F = omega arith
+start-time (Timestamp.Scheduled t) F = F
+
+action-time : (a : Action) → ActionFits a → actionFields a .time < 2 ^ 64
+unfolding actionFields stopFields
+action-time Action.Nothing F = omega arith
+action-time Action.ReceiveRequest F = omega arith
+action-time (Action.TryReceiveRequest d) F = omega arith
+action-time Action.Listen F = omega arith
+action-time (Action.Stop StopListening.Now) F = omega arith
+action-time (Action.Stop (StopListening.At t)) F = F
+action-time (Action.Stop (StopListening.Before t cca)) F = F
+action-time Action.ReadHeader F = omega arith
+action-time (Action.Tx b n cca start spacing rollback) F = start-time start (F .1)
+action-time (Action.Rx b start spacing rollback) F = start-time start F
+action-time (Action.Off rollback) F = omega arith
+
+action-at : (a : ActionFields) (x y : AnswerFields) → a .time < 2 ^ 64 → actionAt (writtenFields a x y) ≡ actionFrom a
+unfolding actionAt writtenFields numberAt
+action-at a x y t =
+    ap (λ (k : ℕ). actionFrom (record { code = a .code; buffer = a .buffer; length = a .length; flags = a .flags; time = k })) (read-back 8 (a .time) t)
+
+action-back : (r : Reply) → ActionFits (r .action) → actionAt (writtenReply r) ≡ r .action
+unfolding writtenReply
+action-back r F = action-at (actionFields (r .action)) (firstFields (r .answers)) (secondFields (r .answers)) (action-time (r .action) F) ∙ fields-action (r .action) F
+
+pub reply-reads-back : ReplyReadsBack
+unfolding replyAt
+reply-reads-back r F =
+    ap (λ (a : Action). record { action = a; answers = answersAt (writtenReply r) }) (action-back r (F .action))
+    ∙ ap (λ (x : Answers). record { action = r .action; answers = x }) (answers-back r (F .answers))

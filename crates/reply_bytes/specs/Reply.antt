@@ -1,6 +1,6 @@
 -- The reply's 48 bytes: docs/LAYOUTS.md, "The reply's 48 bytes".
 -- Assumes nothing.
-use Prim.Native.Nat.{ℕ, _+_, _-_, _%_, _^_, _<_}
+use Prim.Native.Nat.{ℕ, _+_, _-_, _/_, _%_, _^_, _<_}
 use mathlib.Core.Path.{_≡_}
 use mathlib.Core.Bool.{Bool, cond}
 use mathlib.Core.List.{List, [], _∷_, _++_}
@@ -140,9 +140,52 @@ writtenFields a x y =
 unfoldable pub writtenReply : Reply → List ℕ
 writtenReply r = writtenFields (actionFields (r .action)) (firstFields (r .answers)) (secondFields (r .answers))
 
--- ---- The answers as they are read from the bytes
+-- ---- The reply as it is read from the bytes
 
--- what the codes from 1 on stand for, with the length and the time beside them
+-- bit k of the flags, and the spacing in bits 3 and 4
+abbrev pub bit : ℕ → ℕ → Bool
+bit k flags = eqb (flags / 2 ^ k % 2) 1
+
+abbrev pub spacingAt : ℕ → Spacing
+spacingAt flags =
+    getD (Spacing.None ∷ Spacing.After Ifs.Aifs ∷ Spacing.After Ifs.Sifs ∷ Spacing.After Ifs.Lifs ∷ []) (flags / 8) Spacing.None
+
+abbrev pub startAt : ℕ → ℕ → Timestamp
+startAt flags time = cond (bit 2 flags) (Timestamp.Scheduled time) Timestamp.BestEffort
+
+-- the actions in the order of their codes; a code past the end, which no reply has, is read as nothing
+unfoldable pub actionFrom : ActionFields → Action
+actionFrom a =
+    getD
+    (Action.Nothing
+    ∷ Action.ReceiveRequest
+    ∷ Action.TryReceiveRequest TaskDirection.Any
+    ∷ Action.TryReceiveRequest TaskDirection.Outbound
+    ∷ Action.Listen
+    ∷ Action.Stop StopListening.Now
+    ∷ Action.Stop (StopListening.At (a .time))
+    ∷ Action.Stop (StopListening.Before (a .time) (bit 0 (a .flags)))
+    ∷ Action.ReadHeader
+    ∷ Action.Tx (a .buffer) (a .length) (bit 0 (a .flags)) (startAt (a .flags) (a .time)) (spacingAt (a .flags)) (bit 1 (a .flags))
+    ∷ Action.Rx (a .buffer) (startAt (a .flags) (a .time)) (spacingAt (a .flags)) (bit 1 (a .flags))
+    ∷ Action.Off (bit 1 (a .flags))
+    ∷ [])
+    (a .code)
+    Action.Nothing
+
+unfoldable pub actionAt : List ℕ → Action
+actionAt bytes =
+    actionFrom
+    (record {
+      code = getD bytes 0 0;
+      buffer = getD bytes 1 0;
+      length = getD bytes 2 0;
+      flags = getD bytes 3 0;
+      time = numberAt bytes 4 8;
+    })
+
+-- what an answer's codes from 1 on stand for, with the length and the time beside them; a code past the end, which no reply has,
+-- is read as the last
 unfoldable pub responseAt : ℕ → ℕ → ℕ → Response
 responseAt code length time =
     getD
@@ -171,9 +214,29 @@ answersAt bytes =
     cond (eqb (getD bytes 12 0) 0) Answers.None
     (cond (eqb (getD bytes 30 0) 0) (Answers.One (answerAt bytes 12)) (Answers.Two (answerAt bytes 12) (answerAt bytes 30)))
 
+unfoldable pub replyAt : List ℕ → Reply
+replyAt bytes = record { action = actionAt bytes; answers = answersAt bytes }
+
 -- ---- A law of these definitions; proofs/ReadBack.antt has its proof.
 
--- the numbers of an answer fit the bytes that hold them
+-- the numbers of a reply fit the bytes that hold them: lengths one byte
+abbrev pub TimestampFits : Timestamp → Type 0
+TimestampFits Timestamp.BestEffort = Unit {0}
+TimestampFits (Timestamp.Scheduled t) = t < 2 ^ 64
+
+abbrev pub ActionFits : Action → Type 0
+ActionFits Action.Nothing = Unit {0}
+ActionFits Action.ReceiveRequest = Unit {0}
+ActionFits (Action.TryReceiveRequest d) = Unit {0}
+ActionFits Action.Listen = Unit {0}
+ActionFits (Action.Stop StopListening.Now) = Unit {0}
+ActionFits (Action.Stop (StopListening.At t)) = t < 2 ^ 64
+ActionFits (Action.Stop (StopListening.Before t cca)) = t < 2 ^ 64
+ActionFits Action.ReadHeader = Unit {0}
+ActionFits (Action.Tx b n cca start spacing rollback) = (n < 256) × TimestampFits start
+ActionFits (Action.Rx b start spacing rollback) = TimestampFits start
+ActionFits (Action.Off rollback) = Unit {0}
+
 abbrev pub CauseFits : Cause → Type 0
 CauseFits (Cause.Scheduling Timestamp.BestEffort) = Unit {0}
 CauseFits (Cause.Scheduling (Timestamp.Scheduled t)) = t < 2 ^ 64
@@ -199,6 +262,10 @@ AnswersFit Answers.None = Unit {0}
 AnswersFit (Answers.One a) = AnswerFits a
 AnswersFit (Answers.Two a b) = AnswerFits a × AnswerFits b
 
--- the answers of a reply are read back from its bytes
-abbrev pub AnswersReadBack : Type 0
-AnswersReadBack = (r : Reply) → AnswersFit (r .answers) → answersAt (writtenReply r) ≡ r .answers
+pub record ReplyFits (r : Reply) : Type 0 where
+  pub action : ActionFits (r .action)
+  pub answers : AnswersFit (r .answers)
+
+-- a reply is read back from its bytes
+abbrev pub ReplyReadsBack : Type 0
+ReplyReadsBack = (r : Reply) → ReplyFits r → replyAt (writtenReply r) ≡ r

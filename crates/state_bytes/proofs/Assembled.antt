@@ -2,7 +2,7 @@
 -- Assumes nothing.
 use Prim.Native.Nat.{ℕ}
 use mathlib.Core.Path.{_≡_}
-use mathlib.Core.List.{List, [], _∷_, _++_}
+use mathlib.Core.List.{List, _∷_}
 use lib.ListN.{getD, replicate}
 use Rattle.util.specs.Bytes.{bytesOf}
 use Rattle.radio_frame.specs.declared.Settings.{Settings}

@@ -1,17 +1,17 @@
 -- What `decode` answers, from its two tests.
 -- Assumes nothing.
 use Prim.Native.Nat.{ℕ}
-use mathlib.Core.Path.{_≡_, refl, sym, _∙_}
+use mathlib.Core.Path.{_≡_, sym, _∙_}
 use mathlib.Core.Bool.{Bool, true, false, _&&_}
 use mathlib.Core.List.{List}
 use Rattle.tasks.specs.declared.State.{State}
 use Rattle.state_bytes.specs.declared.Decoded.{Decoded}
 use Rattle.state_bytes.specs.Layout.{stateAt, writtenState}
-use Rattle.state_bytes.specs.Valid.{validState, sameList, accepted, decodedOf}
+use Rattle.state_bytes.specs.Valid.{validState, sameList, holdsState, decodedOf}
 
 module _ {valid written both : Bool} (bytes : List ℕ) (s : State) where
-  tested : s ≡ stateAt bytes → valid ≡ validState s → written ≡ sameList (writtenState s) bytes → both ≡ (valid && written) → both ≡ accepted bytes
-  unfolding accepted
+  tested : s ≡ stateAt bytes → valid ≡ validState s → written ≡ sameList (writtenState s) bytes → both ≡ (valid && written) → both ≡ holdsState bytes
+  unfolding holdsState
   tested e v w b = b ∙ rw (v, w, e)
 
   pub given-valid : s ≡ stateAt bytes → valid ≡ validState s → written ≡ sameList (writtenState s) bytes → both ≡ (valid && written) → both ≡ true

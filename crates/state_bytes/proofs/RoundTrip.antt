@@ -1,11 +1,10 @@
--- Writing a state and reading it gives it back; so bytes are accepted exactly if a valid state is written as them.
+-- Writing a state and reading it gives it back; so bytes are holdsState exactly if a valid state is written as them.
 -- Assumes nothing.
-use Prim.Native.Nat.{ℕ, zero, suc, _^_, _<_}
-use mathlib.Core.Path.{_≡_, refl, sym, _∙_, ap, subst}
-use mathlib.Core.Bool.{Bool, true, false, _&&_}
-use mathlib.Core.List.{List, [], _∷_}
+use Prim.Native.Nat.{ℕ}
+use mathlib.Core.Path.{_≡_, refl, _∙_, ap}
+use mathlib.Core.Bool.{Bool, true, false}
+use mathlib.Core.List.{List}
 use lib.Dec.{eqb}
-use lib.ListN.{getD}
 use native.Mathlib.Omega.{arith}
 use Rattle.util.specs.Bytes.{numberAt, AllBytes}
 use Rattle.util.proofs.Numbers.{read-back, byte-at, fits-bytes}
@@ -24,7 +23,7 @@ use Rattle.state_bytes.specs.declared.Part.{Part}
 use Rattle.state_bytes.specs.declared.Parts.{Parts}
 use Rattle.state_bytes.specs.Parts.{ifsCode, noTask, rxTask, partOf, askedPart, leftPart, txPart, nextPart, stopPart, transitionParts, waitParts, ifsAt, rxAt, ackAt, askedTable, askedAt, leftTable, leftAt, nextTable, nextAt, turnTable, turnAt, stopTable, stopAt, waitTable, waitAt}
 use Rattle.state_bytes.specs.Layout.{flagByte, writtenParts, writtenState, settingsAt, taskAt, partsAt, stateAt}
-use Rattle.state_bytes.specs.Valid.{validState, sameList, accepted, SettingsFit, PartFit, StateFits, ReadsBack, Accepts, WrittenFrom, AcceptsOnly}
+use Rattle.state_bytes.specs.Valid.{validState, sameList, holdsState, SettingsFit, PartFit, StateFits, ReadsBack, WrittenFrom, HeldExactly}
 use Rattle.state_bytes.proofs.Picked.{picked}
 use Rattle.state_bytes.proofs.Same.{and-left, and-right, same-true, same-refl}
 
@@ -151,9 +150,9 @@ reads-back s F =
     ∙ ap (λ (q : Parts). record { set = s .set; wait = waitAt q (q .kind) }) (parts-back (s .set) f p (F .case) (F .next))
     ∙ ap (λ (w : Wait). record { set = s .set; wait = w }) (wait-back (s .wait))
 
-pub accepts : Accepts
-unfolding accepted
-accepts s F v = simp (reads-back s F, v, same-refl (writtenState s))
+pub held : (s : State) → StateFits s → validState s ≡ true → holdsState (writtenState s) ≡ true
+unfolding holdsState
+held s F v = simp (reads-back s F, v, same-refl (writtenState s))
 
 -- ---- What bytes are read as fits
 
@@ -239,9 +238,9 @@ module _ (bytes : List ℕ) (A : AllBytes bytes) where
       let W = wait-fits (partsAt bytes) (parts-fit .0) (parts-fit .1) in
       record { settings = settings-fit; case = W .0; next = W .1 }
 
-pub accepts-only : AcceptsOnly
-unfolding accepted
-accepts-only bytes A h =
+read-from : (bytes : List ℕ) → AllBytes bytes → holdsState bytes ≡ true → WrittenFrom bytes
+unfolding holdsState
+read-from bytes A h =
     let s = stateAt bytes in
     record {
       state = s;
@@ -249,3 +248,6 @@ accepts-only bytes A h =
       valid = and-left (validState s) (sameList (writtenState s) bytes) h;
       written = same-true (writtenState s) bytes (and-right (validState s) (sameList (writtenState s) bytes) h);
     }
+
+pub held-exactly : HeldExactly
+held-exactly bytes A = (read-from bytes A, λ w. rw (← w .written) (held (w .state) (w .fits) (w .valid)))

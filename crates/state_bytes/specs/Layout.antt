@@ -2,14 +2,13 @@
 -- Assumes nothing.
 use Prim.Native.Nat.{ℕ, _+_}
 use mathlib.Core.Bool.{Bool, true, false}
-use mathlib.Core.List.{List, [], _∷_, _++_}
+use mathlib.Core.List.{List, _∷_, _++_}
 use lib.Dec.{eqb}
 use lib.ListN.{getD, replicate}
 use Rattle.util.specs.Bytes.{numberAt, bytesOf}
 use Rattle.radio_frame.specs.declared.Settings.{Settings}
 use Rattle.tasks.specs.declared.State.{State}
 use Rattle.tasks.specs.declared.TxTask.{TxTask}
-use Rattle.state_bytes.specs.declared.Part.{Part}
 use Rattle.state_bytes.specs.declared.Parts.{Parts}
 use Rattle.state_bytes.specs.Parts.{waitParts, waitAt}
 

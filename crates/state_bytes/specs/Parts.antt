@@ -68,7 +68,7 @@ stopPart (Stop.Outbound q) = partOf 1 (rxTask q) 0 0 0
 stopPart (Stop.Ack a) = partOf 2 (a .task) (a .number) 0 (a .time)
 stopPart (Stop.AckAgain a) = partOf 3 (a .task) (a .number) 0 (a .time)
 
--- a wait in which the radio enters nothing for a request
+-- a wait without a request whose task is entered
 abbrev pub aloneParts : ℕ → Part → Parts
 aloneParts kind case = record { kind = kind; case = case; next = partOf 0 noTask 0 0 0 }
 

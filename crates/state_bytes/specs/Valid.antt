@@ -32,7 +32,7 @@ unfoldable pub slotsDiffer : Slot → Slot → Bool
 slotsDiffer second Slot.Empty = true
 slotsDiffer second (Slot.Held t b) = differsFrom t b second
 
--- settings pass 2 to 4 with a pool of their own size: the pool's own length is no part of a state
+-- settings pass 2 to 4 with a pool of their own size: the length of the pool at hand is no part of a state
 unfoldable pub validState : State → Bool
 validState s =
     eqb (settingsRefusal (s .set) (144 * s .set .count)) 0
@@ -48,11 +48,11 @@ sameList (x ∷ xs) [] = false
 sameList (x ∷ xs) (y ∷ ys) = eqb x y && sameList xs ys
 
 -- the bytes read as a valid state, and that state is written as them
-unfoldable pub accepted : List ℕ → Bool
-accepted bytes = validState (stateAt bytes) && sameList (writtenState (stateAt bytes)) bytes
+unfoldable pub holdsState : List ℕ → Bool
+holdsState bytes = validState (stateAt bytes) && sameList (writtenState (stateAt bytes)) bytes
 
 unfoldable pub decodedOf : List ℕ → Decoded
-decodedOf bytes = cond (accepted bytes) (Decoded.Valid (stateAt bytes)) Decoded.Invalid
+decodedOf bytes = cond (holdsState bytes) (Decoded.Valid (stateAt bytes)) Decoded.Invalid
 
 -- ---- Laws of these definitions; proofs/RoundTrip.antt has their proofs.
 
@@ -76,20 +76,20 @@ pub record StateFits (s : State) : Type 0 where
   pub case : PartFit (waitParts (s .wait) .case)
   pub next : PartFit (waitParts (s .wait) .next)
 
--- writing a state and reading the bytes gives the state back
+-- writing a state and reading the bytes gives the state back; so two states with the same bytes are the same
 abbrev pub ReadsBack : Type 0
 ReadsBack = (s : State) → StateFits s → stateAt (writtenState s) ≡ s
 
--- so two states with the same bytes are the same; and bytes are accepted exactly if some valid state is written as them
-abbrev pub Accepts : Type 0
-Accepts = (s : State) → StateFits s → validState s ≡ true → accepted (writtenState s) ≡ true
-
--- the valid state that bytes are written as
+-- bytes that some valid state is written as
 pub record WrittenFrom (bytes : List ℕ) : Type 0 where
   pub state : State
   pub fits : StateFits state
   pub valid : validState state ≡ true
   pub written : writtenState state ≡ bytes
 
-abbrev pub AcceptsOnly : Type 0
-AcceptsOnly = (bytes : List ℕ) → AllBytes bytes → accepted bytes ≡ true → WrittenFrom bytes
+-- bytes are accepted exactly if some valid state is written as them
+abbrev pub HeldExactly : Type 0
+HeldExactly =
+    (bytes : List ℕ) →
+    AllBytes bytes →
+    (holdsState bytes ≡ true → WrittenFrom bytes) × (WrittenFrom bytes → holdsState bytes ≡ true)

@@ -4,7 +4,7 @@ ghost use mathlib.Core.Path.{_≡_};
 ghost use Rattle.util.specs.Bytes.{numberAt};
 ghost use Rattle.state_bytes.specs.Parts.{ifsCode, noTask, rxTask, partOf, askedPart, leftPart, txPart, nextPart, stopPart, aloneParts, transitionParts, waitParts, ifsAt, ackAt, rxAt, askedAt, leftAt, nextAt, turnAt, stopAt, waitAt};
 ghost use Rattle.state_bytes.specs.Layout.{flagByte, settingsAt, taskAt, partsAt, stateAt, writtenParts, writtenState};
-ghost use Rattle.state_bytes.specs.Valid.{slotFits, differsFrom, slotsDiffer, validState, sameList, accepted, decodedOf};
+ghost use Rattle.state_bytes.specs.Valid.{slotFits, differsFrom, slotsDiffer, validState, sameList, holdsState, decodedOf};
 use phy::Ifs;
 use radio_frame::AckSeqNum;
 use radio_frame::Settings;
@@ -36,7 +36,7 @@ pub struct Parts {
     pub next: Part,
 }
 
-// What 64 bytes are read as.
+// What bytes are read as.
 pub enum Decoded {
     Valid(State),
     Invalid,

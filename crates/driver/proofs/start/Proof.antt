@@ -14,7 +14,7 @@ use Rattle.moves.specs.declared.Move.{Move}
 use Rattle.moves.specs.Move.{guardedOf, toIdle}
 use Rattle.driver.specs.declared.Outcome.{Outcome}
 use Rattle.driver.specs.Step.{outcomeOf, startOf}
-use Rattle.driver.proofs.History.{history}
+use Rattle.driver.proofs.Promises.{start-promises}
 use Rattle.driver.proofs.start.Statement.{statement}
 use Rattle.driver.proofs.start.Tie as tie
 
@@ -53,7 +53,7 @@ returns c =
     by-start (a .set) (a .pool .now) _ _ _ _ (c .outcome-of .ensures) (guarded .guarded .ensures) (idle .to-idle .ensures)
     (checked .settings-refusal .ensures)
     in
-    record { returns = is; writes = wrote .write-ack .ensures; always-sound = rw is (history (a .set) (a .pool .now)) }
+    start-promises (a .set) (a .pool .now) _ _ is (wrote .write-ack .ensures)
 
 pub start-spec : {M : Type 1} → statement M
 start-spec =

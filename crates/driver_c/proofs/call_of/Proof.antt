@@ -10,11 +10,11 @@ use Rattle.driver_c.specs.Codes.{callOf}
 enum-known-x : tie.Need-enum-known-x
 enum-known-x c = search needs
 
-timestamp-at-requires : tie.Need-timestamp-at-requires
-timestamp-at-requires c κs = search needs
+timestamp-of-requires : tie.Need-timestamp-of-requires
+timestamp-of-requires c κs = search needs
 
-task-at-requires : tie.Need-task-at-requires
-task-at-requires c κs = search needs
+task-of-requires : tie.Need-task-of-requires
+task-of-requires c κs = search needs
 
 enum-told : tie.Need-enum-told
 enum-told c = search needs
@@ -25,14 +25,14 @@ enum-told-2 c = search needs
 enum-known-x-2 : tie.Need-enum-known-x-2
 enum-known-x-2 c = search needs
 
-timestamp-at-requires-2 : tie.Need-timestamp-at-requires-2
-timestamp-at-requires-2 c κs = search needs
+timestamp-of-requires-2 : tie.Need-timestamp-of-requires-2
+timestamp-of-requires-2 c κs = search needs
 
 enum-known-x-3 : tie.Need-enum-known-x-3
 enum-known-x-3 c = search needs
 
-stop-at-requires : tie.Need-stop-at-requires
-stop-at-requires c κs = search needs
+stop-of-requires : tie.Need-stop-of-requires
+stop-of-requires c κs = search needs
 
 enum-known-x-4 : tie.Need-enum-known-x-4
 enum-known-x-4 c = search needs
@@ -40,24 +40,24 @@ enum-known-x-4 c = search needs
 enum-known-x-5 : tie.Need-enum-known-x-5
 enum-known-x-5 c = search needs
 
-result-at-requires : tie.Need-result-at-requires
-result-at-requires c κs = search needs
+result-of-requires : tie.Need-result-of-requires
+result-of-requires c κs = search needs
 
 enum-known-x-6 : tie.Need-enum-known-x-6
 enum-known-x-6 c = search needs
 
-result-at-requires-2 : tie.Need-result-at-requires-2
-result-at-requires-2 c κs = search needs
+result-of-requires-2 : tie.Need-result-of-requires-2
+result-of-requires-2 c κs = search needs
 
-cause-at-requires : tie.Need-cause-at-requires
-cause-at-requires c κs = search needs
+cause-of-requires : tie.Need-cause-of-requires
+cause-of-requires c κs = search needs
 
 enum-told-3 : tie.Need-enum-told-3
 enum-told-3 c = search needs
 
 returns : tie.Need-returns
 unfolding callOf
-returns c = at-case (callOf) (c .before .before .before .x .given .1) (rw (c .task-at .ensures, c .before .timestamp-at .ensures))
+returns c = at-case (callOf) (c .before .before .before .x .given .1) (rw (c .task-of .ensures, c .before .timestamp-of .ensures))
 
 returns-2 : tie.Need-returns-2
 unfolding callOf
@@ -69,11 +69,11 @@ returns-3 c = at-case (callOf) (c .enum-told2 .given .1) refl
 
 returns-4 : tie.Need-returns-4
 unfolding callOf
-returns-4 c = at-case (callOf) (c .before .before .x2 .given .1) (rw (c .timestamp-at2 .ensures))
+returns-4 c = at-case (callOf) (c .before .before .x2 .given .1) (rw (c .timestamp-of2 .ensures))
 
 returns-5 : tie.Need-returns-5
 unfolding callOf
-returns-5 c = at-case (callOf) (c .before .before .x3 .given .1) (rw (c .stop-at .ensures))
+returns-5 c = at-case (callOf) (c .before .before .x3 .given .1) (rw (c .stop-of .ensures))
 
 returns-6 : tie.Need-returns-6
 unfolding callOf
@@ -81,11 +81,11 @@ returns-6 c = at-case (callOf) (c .before .x4 .given .1) refl
 
 returns-7 : tie.Need-returns-7
 unfolding callOf
-returns-7 c = at-case (callOf) (c .before .before .x5 .given .1) (rw (c .result-at .ensures))
+returns-7 c = at-case (callOf) (c .before .before .x5 .given .1) (rw (c .result-of .ensures))
 
 returns-8 : tie.Need-returns-8
 unfolding callOf
-returns-8 c = at-case (callOf) (c .before .before .before .x6 .given .1) (rw (c .cause-at .ensures, c .before .result-at2 .ensures))
+returns-8 c = at-case (callOf) (c .before .before .before .x6 .given .1) (rw (c .cause-of .ensures, c .before .result-of2 .ensures))
 
 returns-9 : tie.Need-returns-9
 unfolding callOf
@@ -96,20 +96,20 @@ call-of-spec =
     tie.close
     (tie.spec
     enum-known-x
-    timestamp-at-requires
-    task-at-requires
+    timestamp-of-requires
+    task-of-requires
     enum-told
     enum-told-2
     enum-known-x-2
-    timestamp-at-requires-2
+    timestamp-of-requires-2
     enum-known-x-3
-    stop-at-requires
+    stop-of-requires
     enum-known-x-4
     enum-known-x-5
-    result-at-requires
+    result-of-requires
     enum-known-x-6
-    result-at-requires-2
-    cause-at-requires
+    result-of-requires-2
+    cause-of-requires
     enum-told-3
     returns
     returns-2

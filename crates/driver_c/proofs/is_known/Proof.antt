@@ -51,7 +51,7 @@ enum-told-3 c = search needs
 
 returns : tie.Need-returns
 unfolding knownOf
-returns c = at-case (knownOf) (c .before .before .before .before .x .given .1) (rw (c .before .either .ensures, c .before .before .both .ensures) at (c .both2 .ensures))
+returns c = at-case (knownOf) (c .before .before .before .before .x .given .1) (rw (c .before .both .ensures, c .before .before .either .ensures) at (c .both2 .ensures))
 
 returns-2 : tie.Need-returns-2
 unfolding knownOf
@@ -90,8 +90,8 @@ is-known-spec =
     tie.close
     (tie.spec
     enum-known-x
-    both-requires
     either-requires
+    both-requires
     both-requires-2
     enum-told
     enum-told-2

@@ -1,0 +1,127 @@
+//! The library's slices beside the model's: each call is made on both, and everything is compared.
+use super::library::Slices;
+use crate::model::calls::{Raw, RawStart};
+use crate::model::export;
+
+#[derive(Clone, Debug)]
+pub struct Pair {
+    library: Slices,
+    state: Vec<u8>,
+    reply: Vec<u8>,
+    pool: Vec<u8>,
+}
+
+/// What the reply slice holds before each call, so that every byte which a call writes or leaves is seen.
+pub fn before(at: usize) -> u8 {
+    (at as u8).wrapping_mul(29) ^ 0xc3
+}
+
+fn difference(name: &str, library: &[u8], model: &[u8]) -> Option<String> {
+    let at = (0..model.len()).find(|at| library[*at] != model[*at])?;
+    let count = (0..model.len()).filter(|at| library[*at] != model[*at]).count();
+    let bytes = if model.len() <= 64 {
+        format!("\n  library {library:02x?}\n  model   {model:02x?}")
+    } else {
+        String::new()
+    };
+    let (left, right) = (library[at], model[at]);
+    Some(format!(
+        "{name}: {count} bytes differ, first byte {at}: library {left:02x}, model {right:02x}{bytes}"
+    ))
+}
+
+impl Pair {
+    pub fn new(state: &[u8], reply: &[u8], pool: &[u8]) -> Pair {
+        Pair {
+            library: Slices::new(state, reply, pool),
+            state: state.to_vec(),
+            reply: reply.to_vec(),
+            pool: pool.to_vec(),
+        }
+    }
+
+    /// With a reply slice of the right length, filled with something.
+    pub fn on(state: &[u8], pool: &[u8]) -> Pair {
+        let reply: Vec<u8> = (0..48).map(before).collect();
+        Pair::new(state, &reply, pool)
+    }
+
+    /// The state slice as the library left it.
+    pub fn state(&self) -> &[u8] {
+        self.library.state.get()
+    }
+
+    pub fn reply(&self) -> &[u8] {
+        self.library.reply.get()
+    }
+
+    pub fn pool(&self) -> &[u8] {
+        self.library.pool.get()
+    }
+
+    /// Host or radio put bytes into the pool.
+    pub fn poke(&mut self, at: usize, bytes: &[u8]) {
+        self.library.pool.get_mut()[at..at + bytes.len()].copy_from_slice(bytes);
+        self.pool[at..at + bytes.len()].copy_from_slice(bytes);
+    }
+
+    /// Other bytes in the state slice.
+    pub fn set_state(&mut self, state: &[u8]) {
+        self.library.state.get_mut().copy_from_slice(state);
+        self.state.copy_from_slice(state);
+    }
+
+    fn refill_reply(&mut self) {
+        for (at, byte) in self.library.reply.get_mut().iter_mut().enumerate() {
+            *byte = before(at);
+        }
+        for (at, byte) in self.reply.iter_mut().enumerate() {
+            *byte = before(at);
+        }
+    }
+
+    pub fn start(&mut self, raw: &RawStart) -> Result<u8, String> {
+        self.refill_reply();
+        let library = self.library.start(raw);
+        let model = export::start(raw, &mut self.state, &mut self.reply, &mut self.pool);
+        self.compare(library, model)
+    }
+
+    /// The call on both. What it returned if everything is equal, else what differs.
+    pub fn call(&mut self, raw: &Raw) -> Result<u8, String> {
+        self.refill_reply();
+        let library = self.library.call(raw);
+        let model = export::call(raw, &mut self.state, &mut self.reply, &mut self.pool);
+        self.compare(library, model)
+    }
+
+    fn compare(&self, library: u8, model: u8) -> Result<u8, String> {
+        if !self.library.intact() {
+            return Err("a byte outside the three slices was written".to_string());
+        }
+        let different = [
+            (library != model).then(|| format!("returned: library {library}, model {model}")),
+            difference("state", self.library.state.get(), &self.state),
+            difference("reply", self.library.reply.get(), &self.reply),
+            difference("pool", self.library.pool.get(), &self.pool),
+        ];
+        let different: Vec<String> = different.into_iter().flatten().collect();
+        if different.is_empty() {
+            Ok(library)
+        } else {
+            Err(different.join("\n"))
+        }
+    }
+
+    /// As `call`, where a difference ends the test.
+    pub fn must(&mut self, raw: &Raw) -> u8 {
+        let state = self.state.clone();
+        let found: Vec<u8> = self.pool.clone();
+        self.call(raw).unwrap_or_else(|different| {
+            panic!(
+                "{different}\ncall {raw:?}\nbefore it:\n  state {state:02x?}\n  pool, {} bytes, {found:02x?}",
+                found.len()
+            )
+        })
+    }
+}

@@ -1,0 +1,155 @@
+//! The library's functions on three slices, each between guard bytes.
+use crate::model::calls::{Raw, RawStart};
+use widosha::ffi;
+
+/// A slice with guard bytes before and after it; with WIDOSHA_ROUNDS_DIVISOR set, a piece of memory of its own and no guard bytes.
+#[derive(Clone, Debug)]
+pub struct Guarded {
+    bytes: Vec<u8>,
+    guard: usize,
+}
+
+fn pattern(at: usize) -> u8 {
+    (at as u8).wrapping_mul(37) ^ 0x5a
+}
+
+impl Guarded {
+    pub fn new(content: &[u8]) -> Guarded {
+        let guard = if super::divisor().is_some() { 0 } else { 32 };
+        let mut bytes: Vec<u8> = Vec::with_capacity(content.len() + 2 * guard);
+        bytes.extend((0..guard).map(pattern));
+        bytes.extend_from_slice(content);
+        bytes.extend((0..guard).map(pattern));
+        Guarded { bytes, guard }
+    }
+
+    pub fn len(&self) -> usize {
+        self.bytes.len() - 2 * self.guard
+    }
+
+    pub fn get(&self) -> &[u8] {
+        &self.bytes[self.guard..self.bytes.len() - self.guard]
+    }
+
+    pub fn get_mut(&mut self) -> &mut [u8] {
+        let end = self.bytes.len() - self.guard;
+        &mut self.bytes[self.guard..end]
+    }
+
+    pub fn intact(&self) -> bool {
+        let (before, after) = (&self.bytes[..self.guard], &self.bytes[self.bytes.len() - self.guard..]);
+        let is_pattern = |guard: &[u8]| guard.iter().enumerate().all(|(at, byte)| *byte == pattern(at));
+        is_pattern(before) && is_pattern(after)
+    }
+}
+
+/// State, reply and pool.
+#[derive(Clone, Debug)]
+pub struct Slices {
+    pub state: Guarded,
+    pub reply: Guarded,
+    pub pool: Guarded,
+}
+
+impl Slices {
+    pub fn new(state: &[u8], reply: &[u8], pool: &[u8]) -> Slices {
+        Slices {
+            state: Guarded::new(state),
+            reply: Guarded::new(reply),
+            pool: Guarded::new(pool),
+        }
+    }
+
+    pub fn intact(&self) -> bool {
+        self.state.intact() && self.reply.intact() && self.pool.intact()
+    }
+
+    /// The three pointers with their lengths.
+    fn parts(&mut self) -> (*mut u8, usize, *mut u8, usize, *mut u8, usize) {
+        let (state, reply, pool) = (self.state.get_mut(), self.reply.get_mut(), self.pool.get_mut());
+        (
+            state.as_mut_ptr(),
+            state.len(),
+            reply.as_mut_ptr(),
+            reply.len(),
+            pool.as_mut_ptr(),
+            pool.len(),
+        )
+    }
+
+    pub fn start(&mut self, raw: &RawStart) -> u8 {
+        let (s, sl, r, rl, p, pl) = self.parts();
+        let RawStart {
+            count,
+            headroom,
+            tailroom,
+            fcs_length,
+            hardware_addr,
+            ..
+        } = *raw;
+        let RawStart {
+            pan_id,
+            implicit_broadcast,
+            ack_buffer,
+            spare_buffer,
+            ..
+        } = *raw;
+        // SAFETY: the pointers come from three separate vectors, with their lengths.
+        unsafe {
+            ffi::widosha_start(
+                count,
+                headroom,
+                tailroom,
+                fcs_length,
+                hardware_addr,
+                pan_id,
+                implicit_broadcast,
+                ack_buffer,
+                spare_buffer,
+                s,
+                sl,
+                r,
+                rl,
+                p,
+                pl,
+            )
+        }
+    }
+
+    pub fn call(&mut self, raw: &Raw) -> u8 {
+        let (s, sl, r, rl, p, pl) = self.parts();
+        // SAFETY: the pointers come from three separate vectors, with their lengths.
+        unsafe {
+            match *raw {
+                Raw::Request {
+                    token,
+                    direction,
+                    start,
+                    time,
+                    buffer,
+                    length,
+                    cca,
+                } => ffi::widosha_request(token, direction, start, time, buffer, length, cca, s, sl, r, rl, p, pl),
+                Raw::None => ffi::widosha_none(s, sl, r, rl, p, pl),
+                Raw::FrameStart => ffi::widosha_frame_start(s, sl, r, rl, p, pl),
+                Raw::OutboundSeen { start, time, cca } => ffi::widosha_outbound_seen(start, time, cca, s, sl, r, rl, p, pl),
+                Raw::Stopped { outcome, length, time } => ffi::widosha_stopped(outcome, length, time, s, sl, r, rl, p, pl),
+                Raw::Header { arrived, length } => ffi::widosha_header(arrived, length, s, sl, r, rl, p, pl),
+                Raw::Entered {
+                    result,
+                    length,
+                    time,
+                    entry,
+                } => ffi::widosha_entered(result, length, time, entry, s, sl, r, rl, p, pl),
+                Raw::Fallback {
+                    result,
+                    length,
+                    time,
+                    cause,
+                    cause_time,
+                } => ffi::widosha_fallback(result, length, time, cause, cause_time, s, sl, r, rl, p, pl),
+                Raw::Rollback => ffi::widosha_rollback(s, sl, r, rl, p, pl),
+            }
+        }
+    }
+}

@@ -1,0 +1,169 @@
+//! Slices of wrong lengths, for every exported function: refused in checking order, and not one byte written.
+mod common;
+mod model;
+
+use common::compare::Pair;
+use common::random::Rng;
+use common::reached::{collect, Reached};
+use common::run::{Opening, Run, Step};
+use common::{choose, rounds, seed, stride};
+use model::bytes::read_state;
+use model::calls::{Raw, RawStart};
+
+fn good_start() -> RawStart {
+    RawStart {
+        count: 3,
+        headroom: 1,
+        tailroom: 2,
+        fcs_length: 2,
+        hardware_addr: 0x0102_0304_0506_0708,
+        pan_id: 0x1234,
+        implicit_broadcast: 1,
+        ack_buffer: 0,
+        spare_buffer: 1,
+    }
+}
+
+/// The slices after these calls from start, with n = 3.
+fn after(raws: &[Raw]) -> Reached {
+    let mut run = Run::open(Opening {
+        start: good_start(),
+        fill: 7,
+    })
+    .unwrap_or_else(|wrong| panic!("{wrong}"));
+    let frame = 2 * 144 + usize::from(good_start().headroom);
+    run.step(Step::Poke((frame, vec![0x41, 0x88, 1, 0x34, 0x12, 0x08, 0x07, 9, 9])))
+        .expect("a poke");
+    for raw in raws {
+        assert_eq!(run.step(Step::Call(*raw)), Ok(0), "{raw:?}");
+    }
+    Reached {
+        state: run.pair.state().to_vec(),
+        pool: run.pair.pool().to_vec(),
+    }
+}
+
+/// One call of each function, on slices on which it is accepted if they have their right lengths.
+fn fitting_calls() -> Vec<(Raw, Reached)> {
+    let request = |direction| Raw::request(5, direction, 0, 0, 2, 9, 0);
+    let (transmit, receive) = (request(0), request(1));
+    let entered = Raw::entered(0, 0, 0, 5);
+    let stopped = Raw::stopped(0, 0, 0);
+    let header = Raw::header(9, 30);
+    let fallback = Raw::fallback(0, 0, 0, 2, 0);
+    let path = [receive, entered, Raw::FrameStart, stopped, header, Raw::None];
+    vec![
+        (transmit, after(&[])),
+        (receive, after(&[])),
+        (entered, after(&path[..1])),
+        (Raw::FrameStart, after(&path[..2])),
+        (Raw::outbound_seen(1, 77, 1), after(&path[..2])),
+        (stopped, after(&path[..3])),
+        (header, after(&path[..4])),
+        (Raw::None, after(&path[..5])),
+        (Raw::Rollback, after(&path)),
+        (fallback, after(&[transmit])),
+    ]
+}
+
+/// Start (no call) or the call, on slices of these lengths; a length beyond the slice is made up with other bytes.
+fn returned(call: &Option<(Raw, Reached)>, lengths: [usize; 3]) -> u8 {
+    let (mut state, mut pool) = match call {
+        None => (vec![0x44; 64], vec![0x55; 432]),
+        Some((_, reached)) => (reached.state.clone(), reached.pool.clone()),
+    };
+    state.resize(lengths[0], 0);
+    pool.resize(lengths[2], 0x66);
+    let mut pair = Pair::new(&state, &vec![0x88; lengths[1]], &pool);
+    let returned = match call {
+        None => pair.start(&good_start()),
+        Some((raw, _)) => pair.call(raw),
+    };
+    let returned = returned.unwrap_or_else(|wrong| panic!("{wrong}\n{call:?} on slices of {lengths:?}"));
+    if returned != 0 {
+        assert_eq!(pair.state(), state, "a refusal changed the state slice");
+        assert_eq!(pair.pool(), pool, "a refusal changed the pool");
+    }
+    returned
+}
+
+/// Every function: start is first, then the nine calls.
+fn every_function() -> Vec<Option<(Raw, Reached)>> {
+    let mut all = vec![None];
+    all.extend(fitting_calls().into_iter().map(Some));
+    all
+}
+
+#[test]
+fn wrong_state_and_reply_lengths_are_1() {
+    let mut count = 0;
+    for call in every_function() {
+        let pool = call.as_ref().map_or(432, |call| call.1.pool.len());
+        assert_eq!(returned(&call, [64, 48, pool]), 0, "{call:?}");
+        for length in (0..=130).filter(|length| *length != 64).step_by(stride().min(7)) {
+            assert_eq!(returned(&call, [length, 48, pool]), 1, "{call:?}, state {length}");
+            count += 1;
+        }
+        for length in (0..=100).filter(|length| *length != 48).step_by(stride().min(7)) {
+            assert_eq!(returned(&call, [64, length, pool]), 1, "{call:?}, reply {length}");
+            count += 1;
+        }
+    }
+    println!("slices: {count} wrong state and reply lengths");
+}
+
+#[test]
+fn wrong_pool_lengths_are_2() {
+    let mut count = 0;
+    for call in every_function() {
+        let right = call.as_ref().map_or(432, |call| call.1.pool.len());
+        let lengths = (0..=700).chain([right - 1, right + 1, 144 * 32, 144 * 33, 65536]);
+        for length in lengths.filter(|length| *length != right).step_by(stride().min(23)) {
+            assert_eq!(returned(&call, [64, 48, length]), 2, "{call:?}, pool {length}");
+            count += 1;
+        }
+    }
+    println!("slices: {count} wrong pool lengths");
+}
+
+/// "1" before "2": a wrong state or reply slice is told first, whatever the pool is.
+#[test]
+fn wrong_lengths_together_are_1_first() {
+    for call in every_function() {
+        for (state, reply, expected) in [(63, 48, 1), (64, 47, 1), (0, 0, 1), (65, 49, 1), (64, 48, 2)] {
+            for pool in [0, 143, 431, 433, 4609] {
+                assert_eq!(returned(&call, [state, reply, pool]), expected, "{call:?}");
+            }
+        }
+    }
+}
+
+/// Wrong lengths in every wait and with any call, codes that stand for nothing among them.
+#[test]
+fn wrong_lengths_in_every_wait() {
+    let mut rng = Rng::new(seed(3));
+    let reached = collect(seed(4), 2);
+    let count = rounds(100_000);
+    for round in 0..count {
+        let from = &reached[round as usize % reached.len()];
+        let state = read_state(&from.state).expect("a reached state");
+        let raw = if rng.chance(50) {
+            choose::fitting(&mut rng, &state, &from.pool)
+        } else {
+            choose::any(&mut rng, &state)
+        };
+        let lengths = [rng.below(131), rng.below(101), rng.below(701)];
+        let right = [64, 48, from.pool.len()];
+        let lengths = match rng.below(4) {
+            0 => [lengths[0], right[1], right[2]],
+            1 => [right[0], lengths[1], right[2]],
+            2 => [right[0], right[1], lengths[2]],
+            _ => lengths,
+        };
+        if lengths != right {
+            let expected = if lengths[..2] == right[..2] { 2 } else { 1 };
+            assert_eq!(returned(&Some((raw, from.clone())), lengths), expected, "{raw:?}");
+        }
+    }
+    println!("slices: {count} wrong lengths in every wait");
+}

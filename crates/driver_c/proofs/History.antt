@@ -13,9 +13,7 @@ use Rattle.util.specs.Bytes.{AllBytes}
 use Rattle.radio_frame.specs.Settings.{settingsRefusal}
 use Rattle.radio_frame.proofs.Laws.{zero-if-fit}
 use Rattle.tasks.specs.declared.Asked.{Asked}
-use Rattle.tasks.specs.declared.Call.{Call}
 use Rattle.tasks.specs.declared.Cause.{Cause}
-use Rattle.tasks.specs.declared.Reply.{Reply}
 use Rattle.tasks.specs.declared.State.{State}
 use Rattle.tasks.specs.declared.TaskResult.{TaskResult}
 use Rattle.tasks.specs.declared.Timestamp.{Timestamp}
@@ -102,7 +100,7 @@ five-or-more k = go (eqb k 0) refl
     go true e h = let z : _≡_ {A = ℕ} 5 0 = rw e at h in absurd (omega arith)
     go false e h = eqb-false k 0 e (rw e at h)
 
--- an holdsState call has a form that is right and codes that stand for something
+-- an accepted call has a form that is right and codes that stand for something
 right-form : (st re po : List ℕ) (x : ExportedCall) → callResult st re po x ≡ 0 → formOk st (length re) ≡ true
 unfolding callResult
 right-form st re po x h = go (formOk st (length re)) refl

@@ -1,4 +1,4 @@
--- Every number of a state stays in its range, and so does every number of an holdsState call's answers.
+-- Every number of a state stays in its range, and so does every number of a call's reply.
 -- Assumes nothing.
 use Prim.Native.Nat.{ℕ, zero, suc, _+_, _^_, _<_, _≤_}
 use mathlib.Core.Path.{_≡_, refl}

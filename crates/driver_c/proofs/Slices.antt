@@ -2,14 +2,14 @@
 -- Assumes nothing.
 use Prim.Native.Nat.{ℕ, _<_, _≤_}
 use mathlib.Core.Path.{_≡_, refl, sym, _∙_, ap}
-use mathlib.Core.Bool.{Bool, true, false, cond}
+use mathlib.Core.Bool.{Bool, true, false, cond, not, _||_}
 use mathlib.Core.List.{List, _++_, append-nil}
 use lib.Dec.{eqb}
 use lib.ListN.{length, take, drop}
 use lib.Seq.{take-length, drop-length}
 use borrow.Author.Tests.{eq-eqb, eqb-true, eqb-false, ne-eqb, lt-ltb, le-ltb}
 use Rattle.radio_frame.specs.declared.Settings.{Settings}
-use Rattle.radio_frame.specs.Settings.{settingsRefusal}
+use Rattle.radio_frame.specs.Settings.{poolUnfit, lengthsUnfit, ownBuffersUnfit, settingsRefusal}
 use Rattle.tasks.specs.declared.Call.{Call}
 use Rattle.tasks.specs.declared.Reply.{Reply}
 use Rattle.tasks.specs.declared.State.{State}
@@ -19,7 +19,7 @@ use Rattle.driver.specs.Promises.{Stepped, Started}
 use Rattle.moves.specs.Move.{guardedOf}
 use Rattle.tasks.specs.declared.Asked.{Asked}
 use Rattle.tasks.specs.declared.Wait.{Wait}
-use Rattle.driver.specs.Refusals.{refusalOf, InOrder, RefusedUnchanged}
+use Rattle.driver.specs.Refusals.{fits, laterRefusal, refusalOf, InOrder, RefusedUnchanged}
 use Rattle.driver.proofs.Refusals.{in-order, refused-unchanged}
 use Rattle.state_bytes.specs.declared.Decoded.{Decoded}
 use Rattle.state_bytes.specs.Layout.{stateAt, writtenState, writtenParts}
@@ -29,7 +29,7 @@ use Rattle.reply_bytes.specs.Reply.{writtenReply, writtenFields}
 use Rattle.driver_c.specs.declared.ExportedCall.{ExportedCall}
 use Rattle.driver_c.specs.declared.StartNumbers.{StartNumbers}
 use Rattle.driver_c.specs.Codes.{knownFlag, knownOf, callOf, settingsOf}
-use Rattle.driver_c.specs.Calls.{slicesFit, formOk, readOf, refusedAs, unknownOf, unknownStart, madeOutcome, madePool, exportedRefusal, storedOver, Finished, ifAccepted, callResult, callState, callReply, callPool, Called, begunOutcome, begunPool, startResult, startState, startReply, startPoolAfter}
+use Rattle.driver_c.specs.Calls.{orFive, slicesFit, formOk, readOf, refusedAs, unknownOf, unknownStart, madeOutcome, madePool, exportedRefusal, storedOver, Finished, ifAccepted, callResult, callState, callReply, callPool, Called, begunOutcome, begunPool, startResult, startState, startReply, startPoolAfter}
 use Rattle.driver_c.specs.Lists.{AlwaysByteSound}
 use Rattle.driver_c.specs.Start.{StartCalled}
 use Rattle.driver_c.proofs.Order.{start-order}
@@ -78,7 +78,7 @@ lengths st re h =
 pub kept : (r : ℕ) (new old : List ℕ) → (r ≡ 0 → ⊥) → ifAccepted r new old ≡ old
 kept r new old h = simp (ne-eqb r 0 h)
 
--- where the lengths are right, an holdsState outcome is written and a refused one is not
+-- where the lengths are right, an accepted outcome is written and a refused one is not
 record Settled (o : Outcome) (st re : List ℕ) (r : ℕ) (st′ re′ : List ℕ) : Type 0 where
   result : r ≡ o .refusal
   state : st′ ≡ ifAccepted (o .refusal) (writtenState (o .state)) st
@@ -133,17 +133,26 @@ module _ (s : State) (po : List ℕ) (x : ExportedCall) where
       go true e = let K = refused-unchanged s po (callOf x) (rw e at h) in (rw e (K .state), rw e (K .pool-bytes))
       go false e = (rw e, rw e)
 
-  pub made-refusal : madeOutcome s po x .refusal ≡ cond (knownOf x) (refusalOf s po (callOf x)) (unknownOf s (length po) .refusal)
-  unfolding madeOutcome InOrder
+  -- a code that stands for nothing: 2 to 4, then 5
+  five-after : (a b c : Bool) → orFive (cond a 2 (cond b 3 (cond c 4 0))) ≡ cond a 2 (cond b 3 (cond c 4 5))
+  five-after true b c = refl
+  five-after false true c = refl
+  five-after false false true = refl
+  five-after false false false = refl
+
+  pub made-refusal : madeOutcome s po x .refusal
+      ≡ cond (poolUnfit (s .set) (length po)) 2 (cond (lengthsUnfit (s .set)) 3 (cond (ownBuffersUnfit (s .set)) 4 (cond (not (knownOf x) || not (fits (callOf x) (s .wait))) 5 (laterRefusal s (callOf x)))))
+  unfolding madeOutcome unknownOf settingsRefusal InOrder refusalOf
   made-refusal = go (knownOf x)
     where
-      go : (t : Bool) → (cond t (stepOf s po (callOf x)) (unknownOf s (length po))) .refusal ≡ cond t (refusalOf s po (callOf x)) (unknownOf s (length po) .refusal)
+      go : (t : Bool) → (cond t (stepOf s po (callOf x)) (unknownOf s (length po))) .refusal
+          ≡ cond (poolUnfit (s .set) (length po)) 2 (cond (lengthsUnfit (s .set)) 3 (cond (ownBuffersUnfit (s .set)) 4 (cond (not t || not (fits (callOf x) (s .wait))) 5 (laterRefusal s (callOf x)))))
       go true = in-order s po (callOf x)
-      go false = refl
+      go false = five-after (poolUnfit (s .set) (length po)) (lengthsUnfit (s .set)) (ownBuffersUnfit (s .set))
 
 -- ---- The whole call
 
--- where a refused outcome's pool is the old one, the pool is what an holdsState one leaves
+-- where a refused outcome's pool is the old one, the pool is what an accepted one leaves
 pool-settled : (po : List ℕ) (r : ℕ) (new : List ℕ) → ((r ≡ 0 → ⊥) → new ≡ po) → new ≡ ifAccepted r new po
 pool-settled po r new h = go (eqb r 0) refl
   where

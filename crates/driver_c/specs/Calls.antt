@@ -16,7 +16,7 @@ use Rattle.tasks.specs.declared.State.{State}
 use Rattle.tasks.specs.declared.Wait.{Wait}
 use Rattle.driver.specs.declared.Outcome.{Outcome}
 use Rattle.driver.specs.Step.{stepOf, stepPool, startOf, startPool}
-use Rattle.driver.specs.Refusals.{refusalOf}
+use Rattle.driver.specs.Refusals.{fits, laterRefusal}
 use Rattle.state_bytes.specs.declared.Decoded.{Decoded}
 use Rattle.state_bytes.specs.Layout.{stateAt, writtenState}
 use Rattle.state_bytes.specs.Valid.{validState, holdsState, decodedOf, StateFits, WrittenFrom}
@@ -57,11 +57,17 @@ madeOutcome s po x = cond (knownOf x) (stepOf s po (callOf x)) (unknownOf s (len
 unfoldable pub madePool : State → List ℕ → ExportedCall → List ℕ
 madePool s po x = cond (knownOf x) (stepPool s po (callOf x)) po
 
--- the refusals in checking order: 1, then 2 to 4, then 5 for a code that stands for nothing, then the engine's
+-- "Refusals, in checking order": the first that holds, or 0. 5 has two conditions here, the second of which is the engine's; what a
+-- call that fits its wait still has to pass, 6 to 11, is the engine's too.
 unfoldable pub exportedRefusal : List ℕ → List ℕ → List ℕ → ExportedCall → ℕ
 exportedRefusal st re po x =
+    let s = stateAt st in
     cond (not (formOk st (length re))) 1
-    (cond (knownOf x) (refusalOf (stateAt st) po (callOf x)) (orFive (settingsRefusal (stateAt st .set) (length po))))
+    (cond (poolUnfit (s .set) (length po)) 2
+    (cond (lengthsUnfit (s .set)) 3
+    (cond (ownBuffersUnfit (s .set)) 4
+    (cond (not (knownOf x) || not (fits (callOf x) (s .wait))) 5
+    (laterRefusal s (callOf x))))))
 
 -- ---- Writing
 
@@ -69,7 +75,7 @@ exportedRefusal st re po x =
 unfoldable pub storedOver : List ℕ → List ℕ → List ℕ
 storedOver new old = cond (eqb (length new) (length old)) new old
 
--- the new bytes of a slice where the call is holdsState, the old ones where it is refused
+-- the new bytes of a slice where the call is accepted, the old ones where it is refused
 abbrev pub ifAccepted : ℕ → List ℕ → List ℕ → List ℕ
 ifAccepted refusal new old = cond (eqb refusal 0) new old
 

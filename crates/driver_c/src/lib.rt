@@ -245,7 +245,7 @@ fn store(src: &[u8], dst: &mut [u8])
     }
 }
 
-// Writes state and reply of an holdsState outcome; returns its refusal.
+// Writes state and reply of an accepted outcome; returns its refusal.
 fn finish(o: Outcome, state: &mut [u8], reply: &mut [u8]) -> u8
     ensures { λ r. ⌜ Finished o (now (state .entry)) (now (reply .entry)) r (now (state .exit)) (now (reply .exit)) ⌝ }
 {

@@ -22,7 +22,7 @@ use Rattle.tasks.specs.declared.Timestamp.{Timestamp}
 use Rattle.reply_bytes.specs.declared.ActionFields.{ActionFields}
 use Rattle.reply_bytes.specs.declared.AnswerFields.{AnswerFields}
 use Rattle.reply_bytes.specs.declared.CameTo.{CameTo}
-use Rattle.reply_bytes.specs.Reply.{actionFields, noAnswer, schedulingFields, causeFields, receivedFields, responseFields, answerFields, firstFields, secondFields, writtenFields, writtenReply, responseAt, answerAt, answersAt, ResponseFits, AnswerFits, AnswersFit, ifsBits, spacingBits, startBit, startTime, directionCode, stopFields, bit, spacingAt, startAt, actionFrom, actionAt, replyAt, TimestampFits, ActionFits, ReplyFits, ReplyReadsBack}
+use Rattle.reply_bytes.specs.Reply.{actionFields, noAnswer, schedulingFields, causeFields, receivedFields, responseFields, answerFields, firstFields, secondFields, writtenFields, writtenReply, responseAt, answerAt, answersAt, ResponseFits, AnswerFits, AnswersFit, ifsBits, spacingBits, startBit, startTime, directionCode, stopFields, bit, spacingAt, startAt, actionFrom, actionAt, replyAt, TimestampFits, ActionFits, ReplyReadsBack}
 
 -- a response from its code, length and time
 abbrev read : CameTo → Response

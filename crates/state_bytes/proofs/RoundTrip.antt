@@ -1,4 +1,4 @@
--- Writing a state and reading it gives it back; so bytes are holdsState exactly if a valid state is written as them.
+-- Writing a state and reading it gives it back; so bytes are accepted exactly if some valid state is written as them.
 -- Assumes nothing.
 use Prim.Native.Nat.{ℕ}
 use mathlib.Core.Path.{_≡_, refl, _∙_, ap}

@@ -1,8 +1,14 @@
 /* The driver service of IEEE 802.15.4 as C functions on numbers and byte slices.
  *
  * docs/LAYOUTS.md gives every code and both layouts byte by byte. A slice is a pointer and its length in bytes; the three slices of
- * a call are the state, the reply and the pool, and must not overlap. Each function returns 0 or the number of the refusal, and a
- * refusal leaves all three slices as they were. tests/40-header.sh compares these declarations with the source. */
+ * a call are the state, the reply and the pool. Each pointer must be good for reading and writing as many bytes as its length says,
+ * and the slices must not overlap. Each function returns 0 or the number of the refusal, and a refusal leaves all three slices as
+ * they were.
+ *
+ * A null pointer with length 0 may be passed for any slice. It is a slice of length 0, and so the call is refused: 1 for the state
+ * or the reply, 2 for the pool.
+ *
+ * tests/40-header.sh compares these declarations with the source. */
 #ifndef WIDOSHA_H
 #define WIDOSHA_H
 

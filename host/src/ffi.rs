@@ -6,7 +6,7 @@
 //! # Safety
 //!
 //! Of every function: each pointer is valid for reads and writes of as many bytes as the length after it says, and the three slices
-//! of a call do not overlap. Any length and any number is answered.
+//! of a call do not overlap. Any length and any number is answered; a pointer with length 0 may be null.
 
 /// Length of the state slice in bytes.
 pub const STATE_LENGTH: usize = 64;

@@ -1,4 +1,5 @@
-//! Slices of wrong lengths, for every exported function: refused in checking order, and not one byte written.
+//! Slices of wrong lengths, null pointers with length 0 among them, for every exported function: refused in checking order, and not
+//! one byte written.
 mod common;
 mod model;
 
@@ -66,8 +67,19 @@ fn fitting_calls() -> Vec<(Raw, Reached)> {
     ]
 }
 
+/// What is passed as the pointer of a slice of length 0.
+#[derive(Clone, Copy, PartialEq, Eq)]
+enum Empty {
+    Place,
+    Null,
+}
+
 /// Start (no call) or the call, on slices of these lengths; a length beyond the slice is made up with other bytes.
 fn returned(call: &Option<(Raw, Reached)>, lengths: [usize; 3]) -> u8 {
+    returned_on(call, lengths, Empty::Place)
+}
+
+fn returned_on(call: &Option<(Raw, Reached)>, lengths: [usize; 3], empty: Empty) -> u8 {
     let (mut state, mut pool) = match call {
         None => (vec![0x44; 64], vec![0x55; 432]),
         Some((_, reached)) => (reached.state.clone(), reached.pool.clone()),
@@ -75,6 +87,9 @@ fn returned(call: &Option<(Raw, Reached)>, lengths: [usize; 3]) -> u8 {
     state.resize(lengths[0], 0);
     pool.resize(lengths[2], 0x66);
     let mut pair = Pair::new(&state, &vec![0x88; lengths[1]], &pool);
+    if empty == Empty::Null {
+        pair = pair.null_if_empty();
+    }
     let returned = match call {
         None => pair.start(&good_start()),
         Some((raw, _)) => pair.call(raw),
@@ -136,6 +151,32 @@ fn wrong_lengths_together_are_1_first() {
             }
         }
     }
+}
+
+/// Null pointers with length 0 in place of each slice, each two and all three. The comparison with the model shows that the slices
+/// that are there keep every byte.
+fn null_pointers(call: &Option<(Raw, Reached)>) -> u64 {
+    let right = [64, 48, call.as_ref().map_or(432, |call| call.1.pool.len())];
+    for set in 1..8 {
+        let null = [set & 1 != 0, set & 2 != 0, set & 4 != 0];
+        let lengths = [0, 1, 2].map(|slice| if null[slice] { 0 } else { right[slice] });
+        let expected = if null[0] || null[1] { 1 } else { 2 };
+        assert_eq!(returned_on(call, lengths, Empty::Null), expected, "{call:?}, null {null:?}");
+    }
+    7
+}
+
+#[test]
+fn null_pointers_with_length_0_are_refused() {
+    let every_function = every_function();
+    let mut count: u64 = every_function.iter().map(null_pointers).sum();
+    let mut rng = Rng::new(seed(11));
+    for from in collect(seed(12), 2) {
+        let state = read_state(&from.state).expect("a reached state");
+        let raw = choose::fitting(&mut rng, &state, &from.pool);
+        count += null_pointers(&Some((raw, from)));
+    }
+    println!("slices: {count} calls with null pointers of length 0");
 }
 
 /// Wrong lengths in every wait and with any call, codes that stand for nothing among them.

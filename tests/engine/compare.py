@@ -5,10 +5,12 @@
 OURS is the program driver_replay, ORACLE the oracle of ../shared/oracle, LIST the file that lists the classes of differences
 (lines 'Engine class `NAME`', each followed by its smallest script). Ends with 0 only if every reply and every pool byte is the
 same in all three, or the difference is in a listed class, every listed class occurs, every call is made in every wait and every
-refusal 2 to 11 is met. With '-' for ORACLE the comparison is with the model alone.
+refusal 2 to 11 is met. The list's other scripts ('Engine unasked `NAME`', 'Engine script `NAME`') are run too: both sides must
+reply what is written there. With '-' for ORACLE the comparison is with the model alone.
 """
 
 import collections
+import os
 import re
 import subprocess
 import sys
@@ -25,11 +27,34 @@ class Wrong(Exception):
     pass
 
 
-def run(program, text):
-    done = subprocess.run([program], input=text.encode(), stdout=subprocess.PIPE, stderr=subprocess.PIPE)
+def run_both(program, text, **settings):
+    """What the program prints, and what it says on standard error; with these settings in its environment."""
+    done = subprocess.run([program], input=text.encode(), capture_output=True, env={**os.environ, **settings})
     if done.returncode:
         raise Wrong("%s ended with %d: %s" % (program, done.returncode, done.stderr.decode()[:500]))
-    return done.stdout.decode()
+    return done.stdout.decode(), done.stderr.decode()
+
+
+def run(program, text):
+    return run_both(program, text)[0]
+
+
+def run_oracle(oracle, text):
+    """The oracle's lines; where one of the Rust's files (copied to target/src) panics, 'panics FILE:LINE' stands for 'refused'."""
+    out, why = run_both(oracle, text, ORACLE_WHY="1")
+    reasons, place = [], None
+    for line in why.splitlines():
+        panic = re.match(r"  panicked at target/src/(?:.*/)?([^/]+:\d+):\d+:$", line)
+        if panic:
+            place = panic.group(1)
+        elif line.startswith("  refused: "):
+            reasons.append("panics " + place if place else "refused")
+            place = None
+    lines = out.splitlines()
+    if len(reasons) != lines.count("refused"):
+        raise Wrong("the oracle gave %d reasons for %d refusals" % (len(reasons), lines.count("refused")))
+    reasons = iter(reasons)
+    return [next(reasons) if line == "refused" else line for line in lines]
 
 
 def model_line(item):
@@ -179,9 +204,9 @@ def listed(path, what):
     return found
 
 
-def check_scripts(programs, classes):
-    """Each class's smallest script: the replies of both are as the list says, and the last one differs."""
-    for name, lines in classes.items():
+def check_scripts(programs, what, scripts):
+    """Each script: the replies of both are as the list says, and, but for 'Engine script', the last one differs."""
+    for name, lines in scripts.items():
         calls, ours_say, rust_says = [], [], []
         for line in lines:
             call, _, replies = line.partition(" -> ")
@@ -195,16 +220,16 @@ def check_scripts(programs, classes):
         for line, kind, say in zip(out, kinds, ours_say, strict=True):
             expected = say if kind == "a" else to_line(kind, *reply_of(say)).strip()
             if (line.split()[2] if kind == "a" else line.strip()) != expected:
-                raise Wrong("class %s: ours says %s, the list '%s'" % (name, line, say))
-        theirs = run(programs[1], "\n".join("dump" if c[0] == "ack" else to_script(c) for c in calls) + "\n").splitlines()
+                raise Wrong("%s %s: ours says %s, the list '%s'" % (what, name, line, say))
+        theirs = run_oracle(programs[1], "\n".join("dump" if c[0] == "ack" else to_script(c) for c in calls) + "\n")
         settings = calls[0]
         at = 144 * settings[8] + settings[2]
         for text, kind, say in zip(theirs, kinds, rust_says):
             seen = text.split()[1][2 * at:2 * at + 6] if kind == "a" else text
             if seen != say:
-                raise Wrong("class %s: the Rust says '%s', the list '%s'" % (name, seen, say))
-        if ours_say[-1] == rust_says[-1]:
-            raise Wrong("class %s: its script ends without a difference" % name)
+                raise Wrong("%s %s: the Rust says '%s', the list '%s'" % (what, name, seen, say))
+        if what != "script" and ours_say[-1] == rust_says[-1]:
+            raise Wrong("%s %s: its script ends without a difference" % (what, name))
 
 
 def report(tally, seconds):
@@ -245,8 +270,8 @@ def main():
     try:
         classes = listed(path, "class")
         if programs[1]:
-            check_scripts(programs, classes)
-            check_scripts(programs, listed(path, "unasked"))
+            for what in ("class", "unasked", "script"):
+                check_scripts(programs, what, listed(path, what))
         while (tally.asked if programs[1] else tally.calls) < calls:
             chunk(programs, "%d/%d" % (seed, index), CHUNK, tally)
             index += 1

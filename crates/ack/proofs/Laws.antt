@@ -1,19 +1,19 @@
 -- The laws of the acknowledgement that specs/Ack.antt states.
 -- Assumes nothing.
 use Prim.Native.Nat.{ℕ, _+_, _*_, _/_, _%_, _^_, _≤_, _<_}
-use mathlib.Core.Path.{_≡_, _∙_, sym}
-use mathlib.Core.Bool.{Bool, true, _&&_, and-eq-true-iff}
+use mathlib.Core.Path.{_≡_, _∙_, sym, ap}
+use mathlib.Core.Bool.{Bool, true, false, _&&_, and-false, and-eq-true-iff}
 use mathlib.Core.Logic.{inl, inr, ⊎-elim}
 use mathlib.Core.List.{List}
 use native.Mathlib.Nat.{eq-or-lt-of-le, mod-mod}
 use native.Mathlib.Omega.{arith}
-use borrow.Author.Tests.{eqb-true}
+use borrow.Author.Tests.{eqb-true, le-leb, lt-leb}
 use lib.Bits.{and-mask, and-mod, and-shr}
-use lib.Dec.{eqb}
-use lib.ListN.{length, getD, set, take, drop, length-set}
+use lib.Dec.{eqb, leb}
+use lib.ListN.{length, getD, set, take, drop, length-set, length-take, length-drop}
 use lib.Seq.{getD-set-same, getD-set-other, getD-take, getD-drop}
-use Rattle.ack.specs.Ack.{immAckFrameAt, seqNrSetAt, maskEFFF, acknowledges}
-use Rattle.ack.specs.Ack.{OneNumber, ThreeBytes, TwoControls, ReadBack, ThreePlaces, OnePlace}
+use Rattle.ack.specs.Ack.{immAckFrameAt, seqNrSetAt, maskEFFF, threeBytes, acknowledges}
+use Rattle.ack.specs.Ack.{OneNumber, ThreeBytes, ShortFramesNever, TwoControls, ReadBack, ThreePlaces, OnePlace}
 
 first : (a b : Bool) → (a && b) ≡ true → a ≡ true
 first a b h = and-eq-true-iff a b .0 h .0
@@ -26,16 +26,24 @@ unfolding acknowledges
 third-byte frame len k h =
     let control = eqb (maskEFFF (getD frame 0 0 + 256 * getD frame 1 0)) 2 in
     let number = eqb (getD frame 2 0) k in
-    eqb-true _ _ (second control number (second (eqb len 3) (control && number) h))
+    eqb-true _ _ (second control number (second (threeBytes frame len) (control && number) h))
 
 pub one-number : OneNumber
 one-number frame len j k p q = sym (third-byte frame len j p) ∙ third-byte frame len k q
 
 pub three-bytes : ThreeBytes
-unfolding acknowledges
+unfolding acknowledges threeBytes
 three-bytes frame len k h =
     let control = eqb (maskEFFF (getD frame 0 0 + 256 * getD frame 1 0)) 2 in
-    eqb-true _ _ (first (eqb len 3) (control && eqb (getD frame 2 0) k) h)
+    eqb-true _ _ (first (eqb len 3) _ (first (threeBytes frame len) (control && eqb (getD frame 2 0) k) h))
+
+not-three : (frame : List ℕ) (len : ℕ) → length frame < 3 → threeBytes frame len ≡ false
+unfolding threeBytes
+not-three frame len h = ap (λ (b : Bool). eqb len 3 && b) (lt-leb 3 (length frame) h) ∙ and-false (eqb len 3)
+
+pub short-frames-never : ShortFramesNever
+unfolding acknowledges
+short-frames-never frame len k h = rw (not-three frame len h)
 
 -- bits 0 to 11 and bits 13 to 15 pass
 low-bits : (control : ℕ) → maskEFFF control % 2 ^ 12 ≡ control % 2 ^ 12
@@ -106,10 +114,12 @@ module _ (pool : List ℕ) (begin number : ℕ) (h : begin + 3 ≤ length pool) 
   third = getD-set-same three (begin + 2) number 0 (simp length-set (omega arith))
 
 pub read-back : ReadBack
-unfolding acknowledges maskEFFF seqNrSetAt immAckFrameAt
+unfolding acknowledges threeBytes maskEFFF seqNrSetAt immAckFrameAt
 read-back pool begin number n k h m =
     let l = seqNrSetAt (immAckFrameAt pool begin) begin number in
+    let whole : 3 ≤ length (take n (drop begin l)) = simp (length-take, length-drop, length-set) (omega arith) in
     rw (
+      le-leb 3 (length (take n (drop begin l))) whole,
       byte-of l begin n 0 (omega arith) ∙ low pool begin number h,
       byte-of l begin n 1 (omega arith) ∙ high pool begin number h,
       byte-of l begin n 2 (omega arith) ∙ third pool begin number h,

@@ -1,12 +1,12 @@
--- The immediate acknowledgement: document 01, "Settings and pool" and "Waits"; IEEE 802.15.4, 7.3.3.
+-- The immediate acknowledgement: document 01, "Settings and pool" and "Waits".
 -- Assumes nothing.
 use Prim.Native.Nat.{ℕ, _+_, _*_, _^_, _≤_, _<_}
-use mathlib.Core.Bool.{Bool, true, _&&_}
+use mathlib.Core.Bool.{Bool, true, false, _&&_}
 use mathlib.Core.Path.{_≡_}
 use mathlib.Core.Logic.{_⊎_}
 use mathlib.Core.List.{List}
 use lib.Bits.{bitAnd}
-use lib.Dec.{eqb}
+use lib.Dec.{eqb, leb}
 use lib.ListN.{length, getD, set, take, drop}
 
 -- "Start writes 02 10 00 into the ACK buffer's frame and no other byte."
@@ -21,10 +21,15 @@ seqNrSetAt pool begin number = set pool (begin + 2) number
 unfoldable pub maskEFFF : ℕ → ℕ
 maskEFFF control = bitAnd control 0xEFFF
 
--- "the received frame is 3 bytes, (control & EFFF) = 0002 hexadecimal, and the third byte is the number noted at acceptance"
+-- "the received frame is 3 bytes": in the length that the radio tells, and all three are at hand
+unfoldable pub threeBytes : List ℕ → ℕ → Bool
+threeBytes frame len = eqb len 3 && leb 3 (length frame)
+
+-- ", (control & EFFF) = 0002 hexadecimal, and the third byte is the number noted at acceptance"
 unfoldable pub acknowledges : List ℕ → ℕ → ℕ → Bool
 acknowledges frame len number =
-    eqb len 3 && (eqb (maskEFFF (getD frame 0 0 + 256 * getD frame 1 0)) 0x0002 && eqb (getD frame 2 0) number)
+    threeBytes frame len
+    && (eqb (maskEFFF (getD frame 0 0 + 256 * getD frame 1 0)) 0x0002 && eqb (getD frame 2 0) number)
 
 -- Laws of these definitions; proofs/Laws.antt has their proofs.
 
@@ -35,6 +40,10 @@ OneNumber =
 
 abbrev pub ThreeBytes : Type 0
 ThreeBytes = (frame : List ℕ) (len k : ℕ) → acknowledges frame len k ≡ true → len ≡ 3
+
+-- fewer than three bytes never acknowledge, whatever length the radio tells
+abbrev pub ShortFramesNever : Type 0
+ShortFramesNever = (frame : List ℕ) (len k : ℕ) → length frame < 3 → acknowledges frame len k ≡ false
 
 -- it has one of two controls: 0002 and 1002
 abbrev pub TwoControls : Type 0

@@ -19,7 +19,7 @@ pub fn set_sequence_number(pool: &mut [u8], begin: u32, number: u8)
     util::put(pool, (begin as usize) + 2, number);
 }
 
-// Whether a received frame, its bytes and its length without checksum, acknowledges a number.
+// Whether a received frame, its bytes and its length without checksum, acknowledges a number; fewer than three bytes never do.
 pub fn is_ack_for(frame: &[u8], length: u16, number: u8) -> bool
     ensures { λ r. ⌜ r ≡ acknowledges (now (frame .entry)) length number ⌝ }
 {
@@ -27,8 +27,9 @@ pub fn is_ack_for(frame: &[u8], length: u16, number: u8) -> bool
     let high = util::byte_at(frame, 1);
     let third = util::byte_at(frame, 2);
     let control = (low as u16) + 256 * (high as u16);
+    let whole = util::both(length == 3, 3 <= frame.len());
     util::both(
-        length == 3,
+        whole,
         util::both(control & 0xEFFF == 0x0002, third == number),
     )
 }

@@ -1,4 +1,4 @@
--- The addressing fields: document 01, "Header facts"; IEEE 802.15.4, 7.2.2.6 and 7.2.2.9.
+-- The addressing fields: document 01, "Header facts"; IEEE 802.15.4-2024, 7.2.2.6, as the Rust cites it.
 -- Assumes nothing.
 use Prim.Native.Nat.{ℕ, _≤_}
 use mathlib.Core.Path.{_≡_}

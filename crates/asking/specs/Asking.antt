@@ -5,7 +5,7 @@ use mathlib.Core.Bool.{Bool, true, false}
 use mathlib.Core.List.{List}
 use Rattle.radio_frame.specs.declared.Settings.{Settings}
 use Rattle.radio_frame.specs.RadioFrame.{frameHead, sduLength, ackSeqNumOf}
-use Rattle.phy.specs.Spacing.{ifsOf}
+use Rattle.phy.specs.Phy.{ifsOf}
 use Rattle.tasks.specs.declared.Action.{Action}
 use Rattle.tasks.specs.declared.Answers.{Answers}
 use Rattle.tasks.specs.declared.Asked.{Asked}
@@ -16,46 +16,40 @@ use Rattle.tasks.specs.declared.Request.{Request}
 use Rattle.tasks.specs.declared.Response.{Response}
 use Rattle.tasks.specs.declared.RxResult.{RxResult}
 use Rattle.tasks.specs.declared.RxTask.{RxTask}
-use Rattle.tasks.specs.declared.Spacing.{Spacing}
+use Rattle.tasks.specs.declared.NextTaskIfs.{NextTaskIfs}
+use Rattle.tasks.specs.declared.Owed.{Owed}
 use Rattle.tasks.specs.declared.State.{State}
 use Rattle.tasks.specs.declared.Task.{Task}
 use Rattle.tasks.specs.declared.Transition.{Transition}
 use Rattle.tasks.specs.declared.TxTask.{TxTask}
 use Rattle.tasks.specs.declared.Wait.{Wait}
-use Rattle.tasks.specs.Requests.{requestRefusal}
+use Rattle.tasks.specs.Answers.{toTx, toRx, answersOf}
+use Rattle.requests.specs.Requests.{requestRefusal}
 use Rattle.moves.specs.declared.Move.{Move}
-use Rattle.asking.specs.declared.Departure.{Departure}
 use Rattle.moves.specs.Move.{unfit, acceptedOf, guardedOf, toIdle}
+use Rattle.asking.specs.declared.PreviousTask.{PreviousTask}
 
 -- ".. carries the spacing of the last data frame": of a sent one, by its length with checksum
-unfoldable pub txSpacing : Settings → TxTask → Spacing
-txSpacing set q = Spacing.After (ifsOf (sduLength set (q .length)))
+unfoldable pub txSpacing : Settings → TxTask → NextTaskIfs
+txSpacing set q = NextTaskIfs.Is (ifsOf (sduLength set (q .length)))
 
--- the answers that a request, or None, brings at once
-abbrev pub endedAnswer : RxTask → Answers
-endedAnswer q =
-    Answers.One (record { token = q .token; buffer = q .buffer; response = Response.Received RxResult.RxWindowEnded })
+abbrev pub leaving : Owed → Left → NextTaskIfs → PreviousTask
+leaving owed left spacing = record { owed = owed; left = left; spacing = spacing }
 
-abbrev pub nackAnswer : TxTask → ℕ → Answers
-nackAnswer q time = Answers.One (record { token = q .token; buffer = q .buffer; response = Response.Nack time })
-
-abbrev pub leaving : Answers → Left → Spacing → Departure
-leaving answers left spacing = record { answers = answers; left = left; spacing = spacing }
-
--- What an ask leaves: the answer given at once, the task that the radio is on, and the spacing before the next one.
+-- What an ask leaves: the answer that a request, or None, brings at once, the task that the radio is on, and the spacing before the next one.
 -- "A Tx or Rx scheduled out of receiving or sending carries the spacing of the last data frame; .. whatever starts from off
 -- carr[ies] none."
-unfoldable pub departureOf : Settings → Asked → Departure
-departureOf set Asked.Idle = leaving Answers.None Left.Off Spacing.None
+unfoldable pub previousTaskOf : Settings → Asked → PreviousTask
+previousTaskOf set Asked.Idle = leaving Owed.None Left.Off NextTaskIfs.None
 -- "Window ended there: .. answer "window ended" and go off-to-Tx, whatever the receive result was."
-departureOf set (Asked.AfterWindow q) = leaving (endedAnswer q) Left.Off Spacing.None
+previousTaskOf set (Asked.AfterWindow q) = leaving (Owed.One (toRx q (Response.Received RxResult.RxWindowEnded))) Left.Off NextTaskIfs.None
 -- "Window ended: ask; whatever the receive result was, the Request .. or None answers Nack and goes on from off."
-departureOf set (Asked.AfterAckWindow q t) = leaving (nackAnswer q t) Left.Off Spacing.None
-departureOf set (Asked.Receiving q i) = leaving Answers.None (Left.Receiving q) (Spacing.After i)
-departureOf set (Asked.Sending q) = leaving Answers.None (Left.Sending q) (txSpacing set q)
+previousTaskOf set (Asked.AfterAckWindow q t) = leaving (Owed.One (toTx q (Response.Nack t))) Left.Off NextTaskIfs.None
+previousTaskOf set (Asked.Receiving q i) = leaving Owed.None (Left.Receiving q) (NextTaskIfs.Is i)
+previousTaskOf set (Asked.Sending q) = leaving Owed.None (Left.Sending q) (txSpacing set q)
 -- after an ACK turn: the spacing of the received data frame, not of the ACK
-departureOf set (Asked.SendingAck i) = leaving Answers.None Left.SendingAck (Spacing.After i)
-departureOf set (Asked.ReceivingAck a) = leaving Answers.None (Left.ReceivingAck a) (txSpacing set (a .task))
+previousTaskOf set (Asked.SendingAck i) = leaving Owed.None Left.SendingAck (NextTaskIfs.Is i)
+previousTaskOf set (Asked.ReceivingAck a) = leaving Owed.None (Left.ReceivingAck a) (txSpacing set (a .task))
 
 -- "A Tx frame wants an ACK if its control at acceptance has bit 5 and its number is not suppressed; that number .. is noted."
 unfoldable pub nextOf : Settings → List ℕ → Request → Task → Next
@@ -64,18 +58,18 @@ nextOf set pool q (Task.Tx length cca) =
 nextOf set pool q Task.Rx = Next.Rx (record { token = q .token; buffer = q .buffer })
 
 -- the task is scheduled at the request's start; "rollback off"
-unfoldable pub requestAction : Request → Spacing → Task → Action
+unfoldable pub requestAction : Request → NextTaskIfs → Task → Action
 requestAction q spacing (Task.Tx length cca) = Action.Tx (q .buffer) length cca (q .start) spacing false
 requestAction q spacing Task.Rx = Action.Rx (q .buffer) (q .start) spacing false
 
 -- "Request": 6 to 9, then what it is to enter, out of what is left
 unfoldable pub requestOf : State → List ℕ → Asked → Request → Move
 requestOf s pool a q =
-    let d = departureOf (s .set) a in
+    let d = previousTaskOf (s .set) a in
     guardedOf s (requestRefusal s a q)
     (acceptedOf (s .set) (Wait.Entering (Transition.Request (d .left) (nextOf (s .set) pool q (q .task))))
     (requestAction q (d .spacing) (q .task))
-    (d .answers))
+    (answersOf (d .owed)))
 
 -- going off
 abbrev pub toOff : Settings → Left → Bool → Move
@@ -89,7 +83,7 @@ noneOf s Asked.Idle = unfit s
 -- "Window ended there: .. (None does not fit)"
 noneOf s (Asked.AfterWindow q) = unfit s
 -- ".. or None answers Nack and goes on from off"
-noneOf s (Asked.AfterAckWindow q t) = toIdle (s .set) (nackAnswer q t)
+noneOf s (Asked.AfterAckWindow q t) = toIdle (s .set) (Answers.One (toTx q (Response.Nack t)))
 -- "Receiving, asked: .. None goes off, rollback on"
 noneOf s (Asked.Receiving q i) = toOff (s .set) (Left.Receiving q) true
 -- "Sending otherwise: .. None goes off"

@@ -1,20 +1,20 @@
 // Waits that ask for a request (driver.rs).
 ghost use mathlib.Core.Path.{_≡_};
-ghost use Rattle.asking.specs.Asking.{txSpacing, endedAnswer, nackAnswer, leaving, departureOf, nextOf, requestAction, requestOf, toOff, noneOf, askingOf};
+ghost use Rattle.asking.specs.Asking.{txSpacing, leaving, previousTaskOf, nextOf, requestAction, requestOf, toOff, noneOf, askingOf};
 use moves::Move;
 use radio_frame::Settings;
 use tasks::Action;
-use tasks::Answer;
 use tasks::Answers;
 use tasks::Asked;
 use tasks::Call;
 use tasks::Left;
 use tasks::Next;
+use tasks::NextTaskIfs;
+use tasks::Owed;
 use tasks::Request;
 use tasks::Response;
 use tasks::RxResult;
 use tasks::RxTask;
-use tasks::Spacing;
 use tasks::State;
 use tasks::Task;
 use tasks::Transition;
@@ -22,62 +22,50 @@ use tasks::TxTask;
 use tasks::Wait;
 
 // What an ask leaves: the answer that the request or None brings at once, the task that the radio is on, and the spacing.
-pub struct Departure {
-    pub answers: Answers,
+pub struct PreviousTask {
+    pub owed: Owed,
     pub left: Left,
-    pub spacing: Spacing,
+    pub spacing: NextTaskIfs,
 }
 
 // The spacing after a sent data frame.
-fn tx_spacing(set: Settings, q: TxTask) -> Spacing
+fn tx_spacing(set: Settings, q: TxTask) -> NextTaskIfs
     ensures { λ r. ⌜ r ≡ txSpacing set q ⌝ }
 {
-    Spacing::After(phy::from_mpdu_length(radio_frame::sdu_length(set, q.length)))
+    NextTaskIfs::Is(phy::from_mpdu_length(radio_frame::sdu_length(set, q.length)))
 }
 
-fn ended(q: RxTask) -> Answers
-    ensures { λ r. ⌜ r ≡ endedAnswer q ⌝ }
+fn leaving(owed: Owed, left: Left, spacing: NextTaskIfs) -> PreviousTask
+    ensures { λ r. ⌜ r ≡ leaving owed left spacing ⌝ }
 {
-    Answers::One(Answer {
-        token: q.token,
-        buffer: q.buffer,
-        response: Response::Received(RxResult::RxWindowEnded),
-    })
-}
-
-fn nack(q: TxTask, time: u64) -> Answers
-    ensures { λ r. ⌜ r ≡ nackAnswer q time ⌝ }
-{
-    Answers::One(Answer {
-        token: q.token,
-        buffer: q.buffer,
-        response: Response::Nack(time),
-    })
-}
-
-fn departing(answers: Answers, left: Left, spacing: Spacing) -> Departure
-    ensures { λ r. ⌜ r ≡ leaving answers left spacing ⌝ }
-{
-    Departure {
-        answers: answers,
+    PreviousTask {
+        owed: owed,
         left: left,
         spacing: spacing,
     }
 }
 
-fn departure_from(set: Settings, a: Asked) -> Departure
-    ensures { λ r. ⌜ r ≡ departureOf set a ⌝ }
+fn previous_task(set: Settings, a: Asked) -> PreviousTask
+    ensures { λ r. ⌜ r ≡ previousTaskOf set a ⌝ }
 {
     match a {
-        Asked::Idle => departing(Answers::None, Left::Off, Spacing::None),
-        Asked::AfterWindow(q) => departing(ended(q), Left::Off, Spacing::None),
-        Asked::AfterAckWindow(q, t) => departing(nack(q, t), Left::Off, Spacing::None),
-        Asked::Receiving(q, i) => departing(Answers::None, Left::Receiving(q), Spacing::After(i)),
-        Asked::Sending(q) => departing(Answers::None, Left::Sending(q), tx_spacing(set, q)),
-        Asked::SendingAck(i) => departing(Answers::None, Left::SendingAck, Spacing::After(i)),
+        Asked::Idle => leaving(Owed::None, Left::Off, NextTaskIfs::None),
+        Asked::AfterWindow(q) => leaving(
+            Owed::One(tasks::rx_answer(q, Response::Received(RxResult::RxWindowEnded))),
+            Left::Off,
+            NextTaskIfs::None,
+        ),
+        Asked::AfterAckWindow(q, t) => leaving(
+            Owed::One(tasks::tx_answer(q, Response::Nack(t))),
+            Left::Off,
+            NextTaskIfs::None,
+        ),
+        Asked::Receiving(q, i) => leaving(Owed::None, Left::Receiving(q), NextTaskIfs::Is(i)),
+        Asked::Sending(q) => leaving(Owed::None, Left::Sending(q), tx_spacing(set, q)),
+        Asked::SendingAck(i) => leaving(Owed::None, Left::SendingAck, NextTaskIfs::Is(i)),
         Asked::ReceivingAck(b) => {
             let task = b.task;
-            departing(Answers::None, Left::ReceivingAck(b), tx_spacing(set, task))
+            leaving(Owed::None, Left::ReceivingAck(b), tx_spacing(set, task))
         }
     }
 }
@@ -105,7 +93,7 @@ fn next_task(set: Settings, pool: &[u8], q: Request) -> Next
     }
 }
 
-fn request_action(q: Request, spacing: Spacing) -> Action
+fn request_action(q: Request, spacing: NextTaskIfs) -> Action
     ensures { λ r. ⌜ r ≡ requestAction q spacing (q .task) ⌝ }
 {
     let task = q.task;
@@ -120,19 +108,19 @@ fn request(s: State, pool: &[u8], a: Asked, q: Request) -> Move
     ensures { λ r. ⌜ r ≡ requestOf s (now (pool .entry)) a q ⌝ }
 {
     let set = s.set;
-    let d = departure_from(set, a);
+    let d = previous_task(set, a);
     let left = d.left;
     let spacing = d.spacing;
-    let answers = d.answers;
+    let owed = d.owed;
     let next = next_task(set, pool, q);
     moves::guarded(
         s,
-        tasks::request_refusal(s, a, q),
+        requests::request_refusal(s, a, q),
         moves::accepted(
             set,
             Wait::Entering(Transition::Request(left, next)),
             request_action(q, spacing),
-            answers,
+            tasks::answers_of(owed),
         ),
     )
 }
@@ -155,7 +143,10 @@ fn none(s: State, a: Asked) -> Move
     match a {
         Asked::Idle => moves::refused(s, 5),
         Asked::AfterWindow(q) => moves::refused(s, 5),
-        Asked::AfterAckWindow(q, t) => moves::to_idle(set, nack(q, t)),
+        Asked::AfterAckWindow(q, t) => moves::to_idle(
+            set,
+            Answers::One(tasks::tx_answer(q, Response::Nack(t))),
+        ),
         Asked::Receiving(q, i) => to_off(set, Left::Receiving(q), true),
         Asked::Sending(q) => to_off(set, Left::Sending(q), false),
         Asked::SendingAck(i) => to_off(set, Left::SendingAck, false),
@@ -170,12 +161,6 @@ pub fn asking(s: State, pool: &[u8], a: Asked, c: Call) -> Move
     match c {
         Call::Request(q) => request(s, pool, a, q),
         Call::None => none(s, a),
-        Call::FrameStart => moves::refused(s, 5),
-        Call::OutboundSeen(t, f) => moves::refused(s, 5),
-        Call::Stopped(x) => moves::refused(s, 5),
-        Call::Header(n, l) => moves::refused(s, 5),
-        Call::Entered(x, t) => moves::refused(s, 5),
-        Call::Fallback(x, y) => moves::refused(s, 5),
-        Call::Rollback => moves::refused(s, 5),
+        _ => moves::refused(s, 5),
     }
 }

@@ -1,5 +1,1 @@
-pub mod Step
-pub mod Refusals
-pub mod Reasons
-pub mod Book
 pub mod Promises

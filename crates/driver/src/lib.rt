@@ -1,7 +1,8 @@
 // The driver service as a total machine: start, and the nine calls, each made on the state that the last one left (driver.rs).
 ghost use mathlib.Core.Path.{_≡_};
-ghost use Rattle.driver.specs.Step.{waitMove, moveOf, outcomeOf, writtenBy, startPool};
+ghost use Rattle.engine.specs.Step.{waitMove, moveOf, outcomeOf, writtenBy, startPool};
 ghost use Rattle.driver.specs.Promises.{Stepped, Started};
+use engine::Outcome;
 use moves::Move;
 use radio_frame::AckSeqNum;
 use radio_frame::Settings;
@@ -12,14 +13,7 @@ use tasks::Reply;
 use tasks::State;
 use tasks::Wait;
 
-// What a call returns: its refusal, or 0; the next state, which a refusal leaves as it was; the reply.
-pub struct Outcome {
-    pub refusal: u8,
-    pub state: State,
-    pub reply: Reply,
-}
-
-fn outcome_of(m: Move) -> Outcome
+pub fn outcome_of(m: Move) -> Outcome
     ensures { λ r. ⌜ r ≡ outcomeOf m ⌝ }
 {
     let state = m.state;
@@ -40,7 +34,7 @@ fn wait_move(s: State, pool: &[u8], c: Call) -> Move
         Wait::Asking(a) => asking::asking(s, pool, a, c),
         Wait::Entering(e) => entering::entering(s, pool, e, c),
         Wait::Listening(q) => listening::listening(s, q, c),
-        Wait::Stopping(p) => listening::stopping(s, p, c),
+        Wait::Stopping(p) => stopping::stopping(s, p, c),
         Wait::Reading(q) => reading::reading(s, pool, q, c),
     }
 }

@@ -5,7 +5,7 @@ mod columns;
 mod replies;
 
 use calls::Read;
-use driver::Outcome;
+use engine::Outcome;
 use radio_frame::Settings;
 use tasks::Call;
 use tasks::State;

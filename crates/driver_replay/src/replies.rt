@@ -5,10 +5,10 @@ use tasks::Action;
 use tasks::Answer;
 use tasks::Answers;
 use tasks::Cause;
+use tasks::NextTaskIfs;
 use tasks::Reply;
 use tasks::Response;
 use tasks::RxResult;
-use tasks::Spacing;
 use tasks::StopListening;
 use tasks::TaskDirection;
 use tasks::Timestamp;
@@ -47,10 +47,10 @@ fn start_time(t: Timestamp) -> u64 {
     }
 }
 
-fn spacing_code(s: Spacing) -> u8 {
+fn spacing_code(s: NextTaskIfs) -> u8 {
     match s {
-        Spacing::None => b'n',
-        Spacing::After(i) => match i {
+        NextTaskIfs::None => b'n',
+        NextTaskIfs::Is(i) => match i {
             Ifs::Aifs => b'a',
             Ifs::Sifs => b's',
             Ifs::Lifs => b'l',

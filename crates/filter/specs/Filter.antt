@@ -1,4 +1,4 @@
--- "For us": document 01, "Header facts"; IEEE 802.15.4, 6.6.2.
+-- "For us": document 01, "Header facts"; IEEE 802.15.4-2024, 6.6.2, as the Rust cites it.
 -- Assumes nothing.
 use Prim.Native.Nat.{ℕ, _+_, _*_, _-_, _/_, _%_, _^_}
 use mathlib.Core.Path.{_≡_}

@@ -1,4 +1,4 @@
--- The frame control field: document 01, "Header facts"; IEEE 802.15.4, 7.2.2.
+-- The frame control field: document 01, "Header facts".
 -- Assumes nothing.
 use Prim.Native.Nat.{ℕ, _+_, _*_, _/_, _%_, _^_}
 use mathlib.Core.Path.{_≡_}

@@ -22,7 +22,8 @@ use Rattle.header.specs.declared.AddressingFact.{AddressingFact}
 use Rattle.header.specs.declared.NumberFound.{NumberFound}
 use Rattle.header.specs.declared.PanIdFound.{PanIdFound}
 use Rattle.header.specs.declared.AddressFound.{AddressFound}
-use Rattle.header.specs.Header.{frameControlFact, numberFound, numberStep, panIdOf, addressOf, panIdFound, addressFound, addressingBegin, addressingFrom, addressingFact, seqNrFact, afterControl, infoOf, totalLength}
+use Rattle.header.specs.Header.{frameControlFact, numberFound, panIdOf, addressOf, addressingBegin, addressingFrom, addressingFact, seqNrFact, afterControl, infoOf, totalLength}
+use Rattle.header.specs.Steps.{numberStep, panIdFound, addressFound}
 
 -- a test that chose one of two different values
 pub chose-first : {A : Type 0} {x y z : A} (b : Bool) → cond b x y ≡ z → (y ≡ z → ⊥) → (b ≡ true) × (x ≡ z)

@@ -20,9 +20,6 @@ use Rattle.header.specs.declared.Address.{Address}
 use Rattle.header.specs.declared.AddressingFields.{AddressingFields}
 use Rattle.header.specs.declared.AddressingFact.{AddressingFact}
 use Rattle.header.specs.declared.PreliminaryFrameInfo.{PreliminaryFrameInfo}
-use Rattle.header.specs.declared.NumberFound.{NumberFound}
-use Rattle.header.specs.declared.PanIdFound.{PanIdFound}
-use Rattle.header.specs.declared.AddressFound.{AddressFound}
 
 -- where the addressing fields begin: after control and, unless it is suppressed, the sequence number
 unfoldable pub addressingBegin : FrameControl → ℕ
@@ -85,21 +82,6 @@ afterControl frame (FrameControlFact.Is fc) =
 -- the facts of the arrived bytes
 unfoldable pub infoOf : List ℕ → PreliminaryFrameInfo
 infoOf frame = afterControl frame (frameControlFact frame)
-
--- one field by itself, for the reader's steps; the sequence number with the place after it
-unfoldable pub numberStep : List ℕ → Bool → NumberFound
-numberStep frame true = NumberFound.Then SeqNrFact.Missing 2
-numberStep frame false =
-    cond (leb 3 (length frame)) (NumberFound.Then (SeqNrFact.Is (getD frame 2 0)) 3) NumberFound.Missing
-
-unfoldable pub panIdFound : List ℕ → ℕ → ℕ → PanIdFound
-panIdFound frame at len = cond (eqb len 0 || leb (at + 2) (length frame)) (PanIdFound.Is (panIdOf frame at len)) PanIdFound.Missing
-
-unfoldable pub addressFound : List ℕ → ℕ → AddressingMode → AddressFound
-addressFound frame at Absent = AddressFound.Is Address.Absent
-addressFound frame at Unknown = AddressFound.Is Address.Absent
-addressFound frame at Short = cond (leb (at + 2) (length frame)) (AddressFound.Is (addressOf frame at Short)) AddressFound.Missing
-addressFound frame at Extended = cond (leb (at + 8) (length frame)) (AddressFound.Is (addressOf frame at Extended)) AddressFound.Missing
 
 -- Laws, proved in proofs/Laws.antt.
 

@@ -1,9 +1,9 @@
 // What the arrived bytes of a frame say of it (PreliminaryFrameInfo of tasks.rs).
 ghost use mathlib.Core.Path.{_≡_};
-ghost use Prim.Native.Nat.{_+_, _<_, _≤_};
+ghost use Prim.Native.Nat.{_<_, _≤_};
 ghost use lib.ListN.{length};
-ghost use Rattle.util.specs.Bytes.{numberAt};
-ghost use Rattle.header.specs.Header.{frameControlFact, numberStep, panIdFound, addressFound, addressingFrom, infoOf};
+ghost use Rattle.header.specs.Header.{frameControlFact, addressingFrom, infoOf};
+ghost use Rattle.header.specs.Steps.{numberStep, panIdFound, addressFound};
 use frame_control::AddressingMode;
 use frame_control::FrameControl;
 
@@ -69,40 +69,6 @@ enum AddressFound {
     Missing,
 }
 
-// A byte as a number to reckon with.
-fn wide(byte: u8) -> u64
-    ensures { λ r. ⌜ (r ≡ byte) × (r < 256) ⌝ }
-{
-    byte as u64
-}
-
-// Two bytes that have arrived, low byte first.
-fn u16_at(frame: &[u8], at: usize) -> u16
-    requires { ⌜ at + 2 ≤ length (now frame) ⌝ }
-    ensures { λ r. ⌜ r ≡ numberAt (now (frame .entry)) at 2 ⌝ }
-{
-    let a1 = at + 1;
-    (wide(frame[at]) + 256 * wide(frame[a1])) as u16
-}
-
-// Eight bytes that have arrived, low byte first.
-fn u64_at(frame: &[u8], at: usize) -> u64
-    requires { ⌜ at + 8 ≤ length (now frame) ⌝ }
-    ensures { λ r. ⌜ r ≡ numberAt (now (frame .entry)) at 8 ⌝ }
-{
-    let a1 = at + 1;
-    let a2 = a1 + 1;
-    let a3 = a2 + 1;
-    let a4 = a3 + 1;
-    let a5 = a4 + 1;
-    let a6 = a5 + 1;
-    let a7 = a6 + 1;
-    let high = wide(frame[a4])
-        + 256 * (wide(frame[a5]) + 256 * (wide(frame[a6]) + 256 * wide(frame[a7])));
-    wide(frame[at])
-        + 256 * (wide(frame[a1]) + 256 * (wide(frame[a2]) + 256 * (wide(frame[a3]) + 256 * high)))
-}
-
 // The frame control, if both its bytes have arrived.
 fn control_at(frame: &[u8]) -> FrameControlFact
     ensures { λ r. ⌜ r ≡ frameControlFact (now (frame .entry)) ⌝ }
@@ -137,7 +103,7 @@ fn pan_id_at(frame: &[u8], at: usize, len: u8) -> PanIdFound
     if frame.len() < at + 2 {
         return PanIdFound::Missing;
     }
-    PanIdFound::Is(PanId::Id(u16_at(frame, at)))
+    PanIdFound::Is(PanId::Id(util::u16_at(frame, at)))
 }
 
 // An address of the given mode, if its bytes have arrived.
@@ -152,13 +118,13 @@ fn address_at(frame: &[u8], at: usize, mode: AddressingMode) -> AddressFound
             if frame.len() < at + 2 {
                 return AddressFound::Missing;
             }
-            AddressFound::Is(Address::Short(u16_at(frame, at)))
+            AddressFound::Is(Address::Short(util::u16_at(frame, at)))
         }
         AddressingMode::Extended => {
             if frame.len() < at + 8 {
                 return AddressFound::Missing;
             }
-            AddressFound::Is(Address::Extended(u64_at(frame, at)))
+            AddressFound::Is(Address::Extended(util::u64_at(frame, at)))
         }
     }
 }

@@ -1,23 +1,19 @@
 -- The leaves' answers as numbers.
 -- Assumes nothing.
 use Prim.Native.Nat.{ℕ, _+_, _*_}
-use mathlib.Core.Bool.{Bool, true, false, not}
+use mathlib.Core.Bool.{not}
 use mathlib.Core.List.{List}
 use lib.Dec.{eqb}
+use Rattle.util.specs.Bytes.{flagNumber}
 use Rattle.frame_control.specs.FrameControl.{fieldsOf, wellFormed}
 use Rattle.addressing.specs.declared.AddressingFieldsLengths.{AddressingFieldsLengths}
 use Rattle.addressing.specs.Addressing.{lengthsOf}
 use Rattle.header.specs.Header.{infoOf}
 use Rattle.filter.specs.Filter.{forUs}
-use Rattle.phy.specs.declared.Ifs.{Ifs}
-use Rattle.phy.specs.Spacing.{ifsOf}
+use Rattle.phy.specs.Phy.{ifsOf, ifsCode}
 use Rattle.ack.specs.Ack.{acknowledges}
 use Rattle.radio_frame.specs.declared.AckSeqNum.{AckSeqNum}
 use Rattle.radio_frame.specs.RadioFrame.{ackSeqNumOf}
-
-unfoldable pub flagNumber : Bool → ℕ
-flagNumber true = 1
-flagNumber false = 0
 
 -- one byte each, the destination PAN's length in the lowest
 unfoldable pub lengthsNumber : AddressingFieldsLengths → ℕ
@@ -27,11 +23,6 @@ lengthsNumber l = l .«dst_pan_id» + 256 * (l .«dst_address» + 256 * (l .«sr
 unfoldable pub ackSeqNumNumber : AckSeqNum → ℕ
 ackSeqNumNumber (AckSeqNum.Is number) = number
 ackSeqNumNumber AckSeqNum.None = 256
-
-unfoldable pub ifsNumber : Ifs → ℕ
-ifsNumber Ifs.Aifs = 0
-ifsNumber Ifs.Sifs = 1
-ifsNumber Ifs.Lifs = 2
 
 -- The exported functions.
 abbrev pub isValidOf : ℕ → ℕ
@@ -51,4 +42,4 @@ abbrev pub isAckForOf : List ℕ → ℕ → ℕ → ℕ
 isAckForOf frame length number = flagNumber (acknowledges frame length number)
 
 abbrev pub fromMpduLengthOf : ℕ → ℕ
-fromMpduLengthOf length = ifsNumber (ifsOf length)
+fromMpduLengthOf length = ifsCode (ifsOf length)

@@ -1,17 +1,10 @@
 // The leaves as C functions on numbers and byte slices, for comparison with the Rust and for the benchmark.
 ghost use mathlib.Core.Path.{_≡_};
 ghost use Rattle.frame_control.specs.FrameControl.{fieldsOf};
-ghost use Rattle.leaves_c.specs.Leaves.{flagNumber, lengthsNumber, ackSeqNumNumber, ifsNumber, isValidOf, addressingFieldsLengthsOf, forUsOf, ackSeqNumOfFrame, isAckForOf, fromMpduLengthOf};
+ghost use Rattle.leaves_c.specs.Leaves.{lengthsNumber, ackSeqNumNumber, isValidOf, addressingFieldsLengthsOf, forUsOf, ackSeqNumOfFrame, isAckForOf, fromMpduLengthOf};
 use addressing::AddressingFieldsLengths;
 use frame_control::FrameControl;
-use phy::Ifs;
 use radio_frame::AckSeqNum;
-
-fn flag_number(flag: bool) -> u8
-    ensures { λ r. ⌜ r ≡ flagNumber flag ⌝ }
-{
-    if flag { 1 } else { 0 }
-}
 
 // The fields of a frame control that is given as one number.
 fn fields(control: u16) -> FrameControl
@@ -41,22 +34,12 @@ fn ack_seq_num_number(n: AckSeqNum) -> u16
     }
 }
 
-fn ifs_number(ifs: Ifs) -> u8
-    ensures { λ r. ⌜ r ≡ ifsNumber ifs ⌝ }
-{
-    match ifs {
-        Ifs::Aifs => 0,
-        Ifs::Sifs => 1,
-        Ifs::Lifs => 2,
-    }
-}
-
 // Whether a frame control is well formed: 1 or 0.
 #[no_mangle]
 pub extern "C" fn widosha_is_valid(control: u16) -> u8
     ensures { λ r. ⌜ r ≡ isValidOf control ⌝ }
 {
-    flag_number(frame_control::is_valid(fields(control)))
+    util::flag_number(frame_control::is_valid(fields(control)))
 }
 
 // The lengths of destination PAN, destination, source PAN and source, one byte each, the first in the lowest byte.
@@ -79,7 +62,7 @@ pub extern "C" fn widosha_is_frame_valid_and_for_us(
     ensures { λ r. ⌜ r ≡ forUsOf (now (frame .entry)) hardware pan implicit ⌝ }
 {
     let info = header::preliminary_frame_info(frame);
-    flag_number(filter::is_frame_valid_and_for_us(hardware, pan, !(implicit == 0), info))
+    util::flag_number(filter::is_frame_valid_and_for_us(hardware, pan, !(implicit == 0), info))
 }
 
 // The number with which a frame wants an acknowledgement, or 256 where it wants none.
@@ -95,7 +78,7 @@ pub extern "C" fn widosha_ack_seq_num(frame: &[u8]) -> u16
 pub extern "C" fn widosha_is_ack_for(frame: &[u8], length: u16, number: u8) -> u8
     ensures { λ r. ⌜ r ≡ isAckForOf (now (frame .entry)) length number ⌝ }
 {
-    flag_number(ack::is_ack_for(frame, length, number))
+    util::flag_number(ack::is_ack_for(frame, length, number))
 }
 
 // The spacing after a frame of a length with checksum: 1 short, 2 long.
@@ -103,5 +86,5 @@ pub extern "C" fn widosha_is_ack_for(frame: &[u8], length: u16, number: u8) -> u
 pub extern "C" fn widosha_from_mpdu_length(length: u16) -> u8
     ensures { λ r. ⌜ r ≡ fromMpduLengthOf length ⌝ }
 {
-    ifs_number(phy::from_mpdu_length(length))
+    phy::ifs_code(phy::from_mpdu_length(length))
 }

@@ -10,6 +10,8 @@ use Rattle.tasks.specs.declared.Answers.{Answers}
 use Rattle.tasks.specs.declared.Asked.{Asked}
 use Rattle.tasks.specs.declared.RxTask.{RxTask}
 use Rattle.tasks.specs.declared.State.{State}
+use Rattle.tasks.specs.declared.Stop.{Stop}
+use Rattle.tasks.specs.declared.StopListening.{StopListening}
 use Rattle.tasks.specs.declared.TaskDirection.{TaskDirection}
 use Rattle.tasks.specs.declared.Wait.{Wait}
 use Rattle.moves.specs.declared.Move.{Move}
@@ -55,3 +57,7 @@ askAny set a answers = acceptedOf set (Wait.Asking a) (Action.TryReceiveRequest 
 -- listening: a frame's start or an outbound request is waited for
 abbrev pub listenOn : Settings → RxTask → Answers → Move
 listenOn set q answers = acceptedOf set (Wait.Listening q) Action.Listen answers
+
+-- "stop": the end of listening is waited for
+abbrev pub stopMove : Settings → Stop → StopListening → Move
+stopMove set p how = acceptedOf set (Wait.Stopping p) (Action.Stop how) Answers.None

@@ -1,6 +1,6 @@
 // What a call does, and the moves that several waits make (driver.rs).
 ghost use mathlib.Core.Path.{_≡_};
-ghost use Rattle.moves.specs.Move.{refusedOf, acceptedOf, guardedOf, toIdle, askAny, listenOn};
+ghost use Rattle.moves.specs.Move.{refusedOf, acceptedOf, guardedOf, toIdle, askAny, listenOn, stopMove};
 use radio_frame::AckSeqNum;
 use radio_frame::Settings;
 use tasks::Action;
@@ -9,6 +9,8 @@ use tasks::Asked;
 use tasks::Reply;
 use tasks::RxTask;
 use tasks::State;
+use tasks::Stop;
+use tasks::StopListening;
 use tasks::TaskDirection;
 use tasks::Wait;
 
@@ -84,4 +86,10 @@ pub fn listen(set: Settings, q: RxTask, answers: Answers) -> Move
     ensures { λ r. ⌜ r ≡ listenOn set q answers ⌝ }
 {
     accepted(set, Wait::Listening(q), Action::Listen, answers)
+}
+
+pub fn stop(set: Settings, p: Stop, how: StopListening) -> Move
+    ensures { λ r. ⌜ r ≡ stopMove set p how ⌝ }
+{
+    accepted(set, Wait::Stopping(p), Action::Stop(how), Answers::None)
 }

@@ -1,1 +1,1 @@
-pub mod Spacing
+pub mod Phy

@@ -1,6 +1,9 @@
 // The spacings between frames (phy.rs), and the time an acknowledgement may start at the latest (driver.rs, timer.rs).
 ghost use mathlib.Core.Path.{_≡_};
-ghost use Rattle.phy.specs.Spacing.{ifsOf, LatestAckStarts};
+ghost use Rattle.phy.specs.Phy.{ifsOf, ifsCode, LatestAckStarts};
+
+// The longest frame with checksum, in bytes.
+pub const PHY_MAX_PACKET_SIZE: u32 = 127;
 
 // The inter-frame spacings: before an acknowledgement, after a short frame, after a long one.
 pub enum Ifs {
@@ -20,6 +23,17 @@ pub fn from_mpdu_length(length: u16) -> Ifs
     ensures { λ r. ⌜ r ≡ ifsOf length ⌝ }
 {
     if length <= 18 { Ifs::Sifs } else { Ifs::Lifs }
+}
+
+// The code of a spacing.
+pub fn ifs_code(ifs: Ifs) -> u8
+    ensures { λ r. ⌜ r ≡ ifsCode ifs ⌝ }
+{
+    match ifs {
+        Ifs::Aifs => 0,
+        Ifs::Sifs => 1,
+        Ifs::Lifs => 2,
+    }
 }
 
 // The latest start of an acknowledgement whose wait was entered at a measured time.

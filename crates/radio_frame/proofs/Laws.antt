@@ -1,16 +1,20 @@
 -- The laws of settings and of the frame record that specs/Settings.antt and specs/RadioFrame.antt state.
 -- Assumes nothing.
 use Prim.Native.Nat.{ℕ, _*_, _≤_}
-use mathlib.Core.Path.{_≡_, refl}
+use mathlib.Core.Path.{_≡_, refl, ap}
 use mathlib.Core.Logic.{_⊎_, inl, inr, ⊎-elim}
-use mathlib.Core.Bool.{Bool, true, false, true≢false, cond, not, _||_}
+use mathlib.Core.Bool.{Bool, true, false, true≢false, cond, not, _&&_, _||_}
 use native.Mathlib.Omega.{arith}
 use borrow.Author.Tests.{ltb-false, leb-false, eqb-true, eqb-false, not-false, le-ltb, lt-leb, eq-eqb, ne-eqb}
 use lib.Dec.{ltb, leb, eqb}
+use lib.ListN.{length, getD}
+use Rattle.frame_control.specs.declared.FrameControl.{FrameControl}
+use Rattle.frame_control.specs.FrameControl.{frameControlOf}
+use Rattle.radio_frame.specs.declared.AckSeqNum.{AckSeqNum}
 use Rattle.radio_frame.specs.declared.Settings.{Settings}
-use Rattle.radio_frame.specs.Settings.{poolUnfit, lengthsUnfit, ownBuffersUnfit, settingsRefusal}
+use Rattle.radio_frame.specs.Settings.{bufferLength, poolUnfit, roomsUnfit, ownBuffersUnfit, settingsRefusal}
 use Rattle.radio_frame.specs.Settings.{Unrefused, Fit, OneOfFour, ZeroIfNone, ZeroIfFit}
-use Rattle.radio_frame.specs.RadioFrame.{frameStart, radioFrameOf, PartsPlaced}
+use Rattle.radio_frame.specs.RadioFrame.{frameStart, radioFrameOf, ackSeqNumOf, PartsPlaced, ShortFramesNever}
 
 -- the first of three flags
 abbrev first : Bool → Bool → Bool → ℕ
@@ -38,22 +42,22 @@ either-true false b h = inr h
 
 pub one-of-four : OneOfFour
 unfolding settingsRefusal
-one-of-four s pool = answer (poolUnfit s pool) (lengthsUnfit s) (ownBuffersUnfit s)
+one-of-four s pool = answer (poolUnfit s pool) (roomsUnfit s) (ownBuffersUnfit s)
 
 pub zero-if-none : ZeroIfNone
 unfolding settingsRefusal
 zero-if-none s pool = (
   λ h.
-      let n = none (poolUnfit s pool) (lengthsUnfit s) (ownBuffersUnfit s) h in
+      let n = none (poolUnfit s pool) (roomsUnfit s) (ownBuffersUnfit s) h in
       record { two = n .0; three = n .1; four = n .2 },
   λ u. rw (u .two, u .three, u .four),
 )
 
 -- each flag that does not hold
 fit : (s : Settings) (pool : ℕ) → Unrefused s pool → Fit s pool
-unfolding poolUnfit lengthsUnfit ownBuffersUnfit
+unfolding poolUnfit roomsUnfit ownBuffersUnfit
 fit s pool u =
-    let outside = neither (ltb (s .count) 3 || ltb 32 (s .count)) (not (eqb pool (144 * s .count))) (u .two) in
+    let outside = neither (ltb (s .count) 3 || ltb 32 (s .count)) (not (eqb pool (bufferLength * s .count))) (u .two) in
     let count = neither (ltb (s .count) 3) (ltb 32 (s .count)) (outside .0) in
     let two-or-four = eqb (s .«fcs_length») 2 || eqb (s .«fcs_length») 4 in
     let lengths = neither (ltb 8 (s .headroom) || ltb 8 (s .tailroom)) (not two-or-four) (u .three) in
@@ -76,7 +80,7 @@ fit s pool u =
     }
 
 unrefused : (s : Settings) (pool : ℕ) → Fit s pool → Unrefused s pool
-unfolding poolUnfit lengthsUnfit ownBuffersUnfit
+unfolding poolUnfit roomsUnfit ownBuffersUnfit
 unrefused s pool f =
     let
     fcs : (eqb (s .«fcs_length») 2 || eqb (s .«fcs_length») 4) ≡ true =
@@ -107,3 +111,12 @@ parts-placed s pool buffer len h b l =
       in-buffer = omega arith;
       in-pool = omega arith;
     }
+
+pub short-frames-never : ShortFramesNever
+unfolding ackSeqNumOf
+short-frames-never frame h =
+    let fc = frameControlOf (getD frame 0 0) (getD frame 1 0) in
+    ap
+    (λ (three : Bool).
+    cond (three && (fc .«ack_request» && not (fc .«sequence_number_suppression»))) (AckSeqNum.Is (getD frame 2 0)) AckSeqNum.None)
+    (lt-leb 3 (length frame) h)

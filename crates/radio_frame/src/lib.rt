@@ -1,7 +1,7 @@
 // Settings, and the frame record as numbers beside the lent pool (radio_frame.rs, repr.rs).
 ghost use mathlib.Core.Path.{_≡_};
 ghost use mathlib.Core.Bool.{cond};
-ghost use Rattle.radio_frame.specs.Settings.{poolUnfit, lengthsUnfit, ownBuffersUnfit, settingsRefusal};
+ghost use Rattle.radio_frame.specs.Settings.{poolUnfit, roomsUnfit, ownBuffersUnfit, settingsRefusal};
 ghost use Rattle.radio_frame.specs.RadioFrame.{frameStart, sduLength, radioFrameOf, ackSeqNumOf};
 
 // What start sets; a re-arm exchanges the spare buffer. The hardware address is its eight bytes, highest first, as one number.
@@ -16,6 +16,9 @@ pub struct Settings {
     pub ack_buffer: u8,
     pub spare_buffer: u8,
 }
+
+// The bytes of one buffer in the pool.
+pub const BUFFER_LENGTH: u32 = 144;
 
 // Places in the pool, from start up to but not including end.
 pub struct Range {
@@ -47,11 +50,14 @@ fn pool_unfit(set: Settings, len: usize) -> bool
     ensures { λ r. ⌜ r ≡ poolUnfit set len ⌝ }
 {
     let outside = util::either(set.count < 3, 32 < set.count);
-    util::either(outside, !(len == 144 * (set.count as usize)))
+    util::either(
+        outside,
+        !(len == (BUFFER_LENGTH * (set.count as u32)) as usize),
+    )
 }
 
-fn lengths_unfit(set: Settings) -> bool
-    ensures { λ r. ⌜ r ≡ lengthsUnfit set ⌝ }
+fn rooms_unfit(set: Settings) -> bool
+    ensures { λ r. ⌜ r ≡ roomsUnfit set ⌝ }
 {
     let rooms = util::either(8 < set.headroom, 8 < set.tailroom);
     util::either(
@@ -72,7 +78,7 @@ pub fn settings_refusal(set: Settings, len: usize) -> u8
     ensures { λ r. ⌜ r ≡ settingsRefusal set len ⌝ }
 {
     let pool = pool_unfit(set, len);
-    let lengths = lengths_unfit(set);
+    let lengths = rooms_unfit(set);
     let own = own_buffers_unfit(set);
     refuse_if(pool, 2, refuse_if(lengths, 3, refuse_if(own, 4, 0)))
 }
@@ -81,7 +87,7 @@ pub fn settings_refusal(set: Settings, len: usize) -> u8
 pub fn frame_start(set: Settings, buffer: u8) -> u32
     ensures { λ r. ⌜ r ≡ frameStart set buffer ⌝ }
 {
-    144 * (buffer as u32) + (set.headroom as u32)
+    BUFFER_LENGTH * (buffer as u32) + (set.headroom as u32)
 }
 
 // The length with checksum; it stays at the largest 16-bit number where the sum is above that.
@@ -96,7 +102,7 @@ pub fn sdu_length(set: Settings, length: u16) -> u16
 pub fn radio_frame(set: Settings, buffer: u8, length: u16) -> RadioFrame
     ensures { λ r. ⌜ r ≡ radioFrameOf set buffer length ⌝ }
 {
-    let buffer_start = 144 * (buffer as u32);
+    let buffer_start = BUFFER_LENGTH * (buffer as u32);
     let sdu = buffer_start + (set.headroom as u32);
     let fcs = sdu + (length as u32);
     let tailroom = fcs + (set.fcs_length as u32);
@@ -121,7 +127,7 @@ pub fn radio_frame(set: Settings, buffer: u8, length: u16) -> RadioFrame
     }
 }
 
-// The number with which a frame, of which these bytes are given, wants an acknowledgement.
+// The number with which a frame, of which these bytes are given, wants an acknowledgement; fewer than three have none.
 pub fn ack_seq_num(frame: &[u8]) -> AckSeqNum
     ensures { λ r. ⌜ r ≡ ackSeqNumOf (now (frame .entry)) ⌝ }
 {
@@ -131,7 +137,8 @@ pub fn ack_seq_num(frame: &[u8]) -> AckSeqNum
     let number = util::byte_at(frame, 2);
     let wanted = fc.ack_request;
     let suppressed = fc.sequence_number_suppression;
-    if util::both(wanted, !suppressed) {
+    let whole = 3 <= frame.len();
+    if util::both(whole, util::both(wanted, !suppressed)) {
         AckSeqNum::Is(number)
     } else {
         AckSeqNum::None

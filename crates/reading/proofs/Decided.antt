@@ -6,7 +6,7 @@ use mathlib.Core.Bool.{Bool, true, false}
 use Rattle.radio_frame.specs.declared.Settings.{Settings}
 use Rattle.radio_frame.specs.declared.AckSeqNum.{AckSeqNum}
 use Rattle.phy.specs.declared.Ifs.{Ifs}
-use Rattle.phy.specs.Spacing.{ifsOf}
+use Rattle.phy.specs.Phy.{ifsOf}
 use Rattle.header.specs.declared.PreliminaryFrameInfo.{PreliminaryFrameInfo}
 use Rattle.filter.specs.Filter.{forUs}
 use Rattle.tasks.specs.declared.RxTask.{RxTask}

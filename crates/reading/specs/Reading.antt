@@ -9,7 +9,7 @@ use Rattle.radio_frame.specs.declared.Settings.{Settings}
 use Rattle.radio_frame.specs.declared.AckSeqNum.{AckSeqNum}
 use Rattle.radio_frame.specs.RadioFrame.{frameStart}
 use Rattle.phy.specs.declared.Ifs.{Ifs}
-use Rattle.phy.specs.Spacing.{ifsOf}
+use Rattle.phy.specs.Phy.{ifsOf, phyMaxPacketSize}
 use Rattle.header.specs.declared.FrameControlFact.{FrameControlFact}
 use Rattle.header.specs.declared.SeqNrFact.{SeqNrFact}
 use Rattle.header.specs.declared.PreliminaryFrameInfo.{PreliminaryFrameInfo}
@@ -20,7 +20,7 @@ use Rattle.tasks.specs.declared.Answers.{Answers}
 use Rattle.tasks.specs.declared.Asked.{Asked}
 use Rattle.tasks.specs.declared.Call.{Call}
 use Rattle.tasks.specs.declared.RxTask.{RxTask}
-use Rattle.tasks.specs.declared.Spacing.{Spacing}
+use Rattle.tasks.specs.declared.NextTaskIfs.{NextTaskIfs}
 use Rattle.tasks.specs.declared.State.{State}
 use Rattle.tasks.specs.declared.Timestamp.{Timestamp}
 use Rattle.tasks.specs.declared.Transition.{Transition}
@@ -38,7 +38,7 @@ requested FrameControlFact.Missing number = AckSeqNum.None
 abbrev pub rearmMove : Settings → RxTask → Move
 rearmMove set q =
     acceptedOf set (Wait.Entering (Transition.Rearm q))
-    (Action.Rx (set .«spare_buffer») Timestamp.BestEffort Spacing.None false)
+    (Action.Rx (set .«spare_buffer») Timestamp.BestEffort NextTaskIfs.None false)
     Answers.None
 
 -- "write it in the ACK frame, send it, rollback on": three bytes after the ACK spacing
@@ -49,7 +49,7 @@ ackTurnMove set q i k =
       state = record { set = set; wait = Wait.Entering (Transition.AckTurn q i) };
       reply =
           record {
-            action = Action.Tx (set .«ack_buffer») 3 false Timestamp.BestEffort (Spacing.After Ifs.Aifs) true;
+            action = Action.Tx (set .«ack_buffer») 3 false Timestamp.BestEffort (NextTaskIfs.Is Ifs.Aifs) true;
             answers = Answers.None;
           };
       number = AckSeqNum.Is k;
@@ -69,7 +69,7 @@ headerMove set q info length =
 
 -- "10. .. or arrived bytes are above 127 − F."
 unfoldable pub arrivedRefusal : Settings → ℕ → ℕ
-arrivedRefusal set arrived = cond (ltb 127 (arrived + set .«fcs_length»)) 10 0
+arrivedRefusal set arrived = cond (ltb phyMaxPacketSize (arrived + set .«fcs_length»)) 10 0
 
 -- "Header: how many bytes have arrived in the listening buffer's frame, length with checksum (any 16 bits)."
 unfoldable pub headerOf : State → List ℕ → RxTask → ℕ → ℕ → Move

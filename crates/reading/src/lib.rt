@@ -12,9 +12,9 @@ use tasks::Action;
 use tasks::Answers;
 use tasks::Asked;
 use tasks::Call;
+use tasks::NextTaskIfs;
 use tasks::Reply;
 use tasks::RxTask;
-use tasks::Spacing;
 use tasks::State;
 use tasks::Timestamp;
 use tasks::Transition;
@@ -46,7 +46,7 @@ fn rearm(set: Settings, q: RxTask) -> Move
         Action::Rx(
             set.spare_buffer,
             Timestamp::BestEffort,
-            Spacing::None,
+            NextTaskIfs::None,
             false,
         ),
         Answers::None,
@@ -68,7 +68,7 @@ fn ack_turn(set: Settings, q: RxTask, i: Ifs, k: u8) -> Move
                 3,
                 false,
                 Timestamp::BestEffort,
-                Spacing::After(Ifs::Aifs),
+                NextTaskIfs::Is(Ifs::Aifs),
                 true,
             ),
             answers: Answers::None,
@@ -113,7 +113,7 @@ fn header_move(set: Settings, q: RxTask, info: PreliminaryFrameInfo, length: u16
 fn arrived_refusal(set: Settings, arrived: u16) -> u8
     ensures { λ r. ⌜ r ≡ arrivedRefusal set arrived ⌝ }
 {
-    if 127 < (arrived as u32) + (set.fcs_length as u32) {
+    if phy::PHY_MAX_PACKET_SIZE < (arrived as u32) + (set.fcs_length as u32) {
         10
     } else {
         0
@@ -138,14 +138,7 @@ pub fn reading(s: State, pool: &[u8], q: RxTask, c: Call) -> Move
     ensures { λ r. ⌜ r ≡ readingOf s (now (pool .entry)) q c ⌝ }
 {
     match c {
-        Call::Request(x) => moves::refused(s, 5),
-        Call::None => moves::refused(s, 5),
-        Call::FrameStart => moves::refused(s, 5),
-        Call::OutboundSeen(t, f) => moves::refused(s, 5),
-        Call::Stopped(x) => moves::refused(s, 5),
         Call::Header(n, l) => read(s, pool, q, n, l),
-        Call::Entered(x, t) => moves::refused(s, 5),
-        Call::Fallback(x, y) => moves::refused(s, 5),
-        Call::Rollback => moves::refused(s, 5),
+        _ => moves::refused(s, 5),
     }
 }

@@ -8,8 +8,9 @@ use native.Mathlib.Omega.{arith}
 use Rattle.util.specs.Bytes.{numberAt}
 use Rattle.util.proofs.Numbers.{read-back}
 use Rattle.phy.specs.declared.Ifs.{Ifs}
+use Rattle.phy.specs.Phy.{ifsCode}
 use Rattle.tasks.specs.declared.Action.{Action}
-use Rattle.tasks.specs.declared.Spacing.{Spacing}
+use Rattle.tasks.specs.declared.NextTaskIfs.{NextTaskIfs}
 use Rattle.tasks.specs.declared.StopListening.{StopListening}
 use Rattle.tasks.specs.declared.TaskDirection.{TaskDirection}
 use Rattle.tasks.specs.declared.Answer.{Answer}
@@ -22,7 +23,7 @@ use Rattle.tasks.specs.declared.Timestamp.{Timestamp}
 use Rattle.reply_bytes.specs.declared.ActionFields.{ActionFields}
 use Rattle.reply_bytes.specs.declared.AnswerFields.{AnswerFields}
 use Rattle.reply_bytes.specs.declared.CameTo.{CameTo}
-use Rattle.reply_bytes.specs.Reply.{actionFields, noAnswer, schedulingFields, causeFields, receivedFields, responseFields, answerFields, firstFields, secondFields, writtenFields, writtenReply, responseAt, answerAt, answersAt, ResponseFits, AnswerFits, AnswersFit, ifsBits, spacingBits, startBit, startTime, directionCode, stopFields, bit, spacingAt, startAt, actionFrom, actionAt, replyAt, TimestampFits, ActionFits, ReplyReadsBack}
+use Rattle.reply_bytes.specs.Reply.{actionFields, noAnswer, schedulingFields, causeFields, receivedFields, responseFields, answerFields, firstFields, secondFields, writtenFields, writtenReply, responseAt, answerAt, answersAt, ResponseFits, AnswerFits, AnswersFit, spacingBits, startBit, startTime, taskFlags, directionCode, stopFields, bit, spacingAt, startAt, actionFrom, actionAt, replyAt, TimestampFits, ActionFits, ReplyReadsBack}
 
 -- a response from its code, length and time
 abbrev read : CameTo → Response
@@ -111,78 +112,50 @@ answers-back r F = go (r .answers) F
 
 -- ---- The action
 
--- the flags of a Tx and of an Rx hold what they are made of
-abbrev flagsOf : Bool → Bool → Timestamp → Spacing → ℕ
-flagsOf cca rollback start spacing = cond cca 1 0 + cond rollback 2 0 + startBit start + spacingBits spacing
+-- the flags hold what they are made of
+flags-back : (cca rollback : Bool) (start : Timestamp) (spacing : NextTaskIfs)
+    → (bit 0 (taskFlags cca rollback start spacing) ≡ cca)
+    × (bit 1 (taskFlags cca rollback start spacing) ≡ rollback)
+    × (startAt (taskFlags cca rollback start spacing) (startTime start) ≡ start)
+    × (spacingAt (taskFlags cca rollback start spacing) ≡ spacing)
+unfolding startBit startTime spacingBits ifsCode
+flags-back true true Timestamp.BestEffort NextTaskIfs.None = (refl, refl, refl, refl)
+flags-back true true Timestamp.BestEffort (NextTaskIfs.Is Ifs.Aifs) = (refl, refl, refl, refl)
+flags-back true true Timestamp.BestEffort (NextTaskIfs.Is Ifs.Sifs) = (refl, refl, refl, refl)
+flags-back true true Timestamp.BestEffort (NextTaskIfs.Is Ifs.Lifs) = (refl, refl, refl, refl)
+flags-back true true (Timestamp.Scheduled t) NextTaskIfs.None = (refl, refl, refl, refl)
+flags-back true true (Timestamp.Scheduled t) (NextTaskIfs.Is Ifs.Aifs) = (refl, refl, refl, refl)
+flags-back true true (Timestamp.Scheduled t) (NextTaskIfs.Is Ifs.Sifs) = (refl, refl, refl, refl)
+flags-back true true (Timestamp.Scheduled t) (NextTaskIfs.Is Ifs.Lifs) = (refl, refl, refl, refl)
+flags-back true false Timestamp.BestEffort NextTaskIfs.None = (refl, refl, refl, refl)
+flags-back true false Timestamp.BestEffort (NextTaskIfs.Is Ifs.Aifs) = (refl, refl, refl, refl)
+flags-back true false Timestamp.BestEffort (NextTaskIfs.Is Ifs.Sifs) = (refl, refl, refl, refl)
+flags-back true false Timestamp.BestEffort (NextTaskIfs.Is Ifs.Lifs) = (refl, refl, refl, refl)
+flags-back true false (Timestamp.Scheduled t) NextTaskIfs.None = (refl, refl, refl, refl)
+flags-back true false (Timestamp.Scheduled t) (NextTaskIfs.Is Ifs.Aifs) = (refl, refl, refl, refl)
+flags-back true false (Timestamp.Scheduled t) (NextTaskIfs.Is Ifs.Sifs) = (refl, refl, refl, refl)
+flags-back true false (Timestamp.Scheduled t) (NextTaskIfs.Is Ifs.Lifs) = (refl, refl, refl, refl)
+flags-back false true Timestamp.BestEffort NextTaskIfs.None = (refl, refl, refl, refl)
+flags-back false true Timestamp.BestEffort (NextTaskIfs.Is Ifs.Aifs) = (refl, refl, refl, refl)
+flags-back false true Timestamp.BestEffort (NextTaskIfs.Is Ifs.Sifs) = (refl, refl, refl, refl)
+flags-back false true Timestamp.BestEffort (NextTaskIfs.Is Ifs.Lifs) = (refl, refl, refl, refl)
+flags-back false true (Timestamp.Scheduled t) NextTaskIfs.None = (refl, refl, refl, refl)
+flags-back false true (Timestamp.Scheduled t) (NextTaskIfs.Is Ifs.Aifs) = (refl, refl, refl, refl)
+flags-back false true (Timestamp.Scheduled t) (NextTaskIfs.Is Ifs.Sifs) = (refl, refl, refl, refl)
+flags-back false true (Timestamp.Scheduled t) (NextTaskIfs.Is Ifs.Lifs) = (refl, refl, refl, refl)
+flags-back false false Timestamp.BestEffort NextTaskIfs.None = (refl, refl, refl, refl)
+flags-back false false Timestamp.BestEffort (NextTaskIfs.Is Ifs.Aifs) = (refl, refl, refl, refl)
+flags-back false false Timestamp.BestEffort (NextTaskIfs.Is Ifs.Sifs) = (refl, refl, refl, refl)
+flags-back false false Timestamp.BestEffort (NextTaskIfs.Is Ifs.Lifs) = (refl, refl, refl, refl)
+flags-back false false (Timestamp.Scheduled t) NextTaskIfs.None = (refl, refl, refl, refl)
+flags-back false false (Timestamp.Scheduled t) (NextTaskIfs.Is Ifs.Aifs) = (refl, refl, refl, refl)
+flags-back false false (Timestamp.Scheduled t) (NextTaskIfs.Is Ifs.Sifs) = (refl, refl, refl, refl)
+flags-back false false (Timestamp.Scheduled t) (NextTaskIfs.Is Ifs.Lifs) = (refl, refl, refl, refl)
 
-tx-flags : (cca rollback : Bool) (start : Timestamp) (spacing : Spacing)
-    → (bit 0 (flagsOf cca rollback start spacing) ≡ cca)
-    × (bit 1 (flagsOf cca rollback start spacing) ≡ rollback)
-    × (startAt (flagsOf cca rollback start spacing) (startTime start) ≡ start)
-    × (spacingAt (flagsOf cca rollback start spacing) ≡ spacing)
-unfolding startBit startTime spacingBits ifsBits
-tx-flags true true Timestamp.BestEffort Spacing.None = (refl, refl, refl, refl)
-tx-flags true true Timestamp.BestEffort (Spacing.After Ifs.Aifs) = (refl, refl, refl, refl)
-tx-flags true true Timestamp.BestEffort (Spacing.After Ifs.Sifs) = (refl, refl, refl, refl)
-tx-flags true true Timestamp.BestEffort (Spacing.After Ifs.Lifs) = (refl, refl, refl, refl)
-tx-flags true true (Timestamp.Scheduled t) Spacing.None = (refl, refl, refl, refl)
-tx-flags true true (Timestamp.Scheduled t) (Spacing.After Ifs.Aifs) = (refl, refl, refl, refl)
-tx-flags true true (Timestamp.Scheduled t) (Spacing.After Ifs.Sifs) = (refl, refl, refl, refl)
-tx-flags true true (Timestamp.Scheduled t) (Spacing.After Ifs.Lifs) = (refl, refl, refl, refl)
-tx-flags true false Timestamp.BestEffort Spacing.None = (refl, refl, refl, refl)
-tx-flags true false Timestamp.BestEffort (Spacing.After Ifs.Aifs) = (refl, refl, refl, refl)
-tx-flags true false Timestamp.BestEffort (Spacing.After Ifs.Sifs) = (refl, refl, refl, refl)
-tx-flags true false Timestamp.BestEffort (Spacing.After Ifs.Lifs) = (refl, refl, refl, refl)
-tx-flags true false (Timestamp.Scheduled t) Spacing.None = (refl, refl, refl, refl)
-tx-flags true false (Timestamp.Scheduled t) (Spacing.After Ifs.Aifs) = (refl, refl, refl, refl)
-tx-flags true false (Timestamp.Scheduled t) (Spacing.After Ifs.Sifs) = (refl, refl, refl, refl)
-tx-flags true false (Timestamp.Scheduled t) (Spacing.After Ifs.Lifs) = (refl, refl, refl, refl)
-tx-flags false true Timestamp.BestEffort Spacing.None = (refl, refl, refl, refl)
-tx-flags false true Timestamp.BestEffort (Spacing.After Ifs.Aifs) = (refl, refl, refl, refl)
-tx-flags false true Timestamp.BestEffort (Spacing.After Ifs.Sifs) = (refl, refl, refl, refl)
-tx-flags false true Timestamp.BestEffort (Spacing.After Ifs.Lifs) = (refl, refl, refl, refl)
-tx-flags false true (Timestamp.Scheduled t) Spacing.None = (refl, refl, refl, refl)
-tx-flags false true (Timestamp.Scheduled t) (Spacing.After Ifs.Aifs) = (refl, refl, refl, refl)
-tx-flags false true (Timestamp.Scheduled t) (Spacing.After Ifs.Sifs) = (refl, refl, refl, refl)
-tx-flags false true (Timestamp.Scheduled t) (Spacing.After Ifs.Lifs) = (refl, refl, refl, refl)
-tx-flags false false Timestamp.BestEffort Spacing.None = (refl, refl, refl, refl)
-tx-flags false false Timestamp.BestEffort (Spacing.After Ifs.Aifs) = (refl, refl, refl, refl)
-tx-flags false false Timestamp.BestEffort (Spacing.After Ifs.Sifs) = (refl, refl, refl, refl)
-tx-flags false false Timestamp.BestEffort (Spacing.After Ifs.Lifs) = (refl, refl, refl, refl)
-tx-flags false false (Timestamp.Scheduled t) Spacing.None = (refl, refl, refl, refl)
-tx-flags false false (Timestamp.Scheduled t) (Spacing.After Ifs.Aifs) = (refl, refl, refl, refl)
-tx-flags false false (Timestamp.Scheduled t) (Spacing.After Ifs.Sifs) = (refl, refl, refl, refl)
-tx-flags false false (Timestamp.Scheduled t) (Spacing.After Ifs.Lifs) = (refl, refl, refl, refl)
-
-abbrev rxFlagsOf : Bool → Timestamp → Spacing → ℕ
-rxFlagsOf rollback start spacing = cond rollback 2 0 + startBit start + spacingBits spacing
-
-rx-flags : (rollback : Bool) (start : Timestamp) (spacing : Spacing)
-    → (bit 1 (rxFlagsOf rollback start spacing) ≡ rollback)
-    × (startAt (rxFlagsOf rollback start spacing) (startTime start) ≡ start)
-    × (spacingAt (rxFlagsOf rollback start spacing) ≡ spacing)
-unfolding startBit startTime spacingBits ifsBits
-rx-flags true Timestamp.BestEffort Spacing.None = (refl, refl, refl)
-rx-flags true Timestamp.BestEffort (Spacing.After Ifs.Aifs) = (refl, refl, refl)
-rx-flags true Timestamp.BestEffort (Spacing.After Ifs.Sifs) = (refl, refl, refl)
-rx-flags true Timestamp.BestEffort (Spacing.After Ifs.Lifs) = (refl, refl, refl)
-rx-flags true (Timestamp.Scheduled t) Spacing.None = (refl, refl, refl)
-rx-flags true (Timestamp.Scheduled t) (Spacing.After Ifs.Aifs) = (refl, refl, refl)
-rx-flags true (Timestamp.Scheduled t) (Spacing.After Ifs.Sifs) = (refl, refl, refl)
-rx-flags true (Timestamp.Scheduled t) (Spacing.After Ifs.Lifs) = (refl, refl, refl)
-rx-flags false Timestamp.BestEffort Spacing.None = (refl, refl, refl)
-rx-flags false Timestamp.BestEffort (Spacing.After Ifs.Aifs) = (refl, refl, refl)
-rx-flags false Timestamp.BestEffort (Spacing.After Ifs.Sifs) = (refl, refl, refl)
-rx-flags false Timestamp.BestEffort (Spacing.After Ifs.Lifs) = (refl, refl, refl)
-rx-flags false (Timestamp.Scheduled t) Spacing.None = (refl, refl, refl)
-rx-flags false (Timestamp.Scheduled t) (Spacing.After Ifs.Aifs) = (refl, refl, refl)
-rx-flags false (Timestamp.Scheduled t) (Spacing.After Ifs.Sifs) = (refl, refl, refl)
-rx-flags false (Timestamp.Scheduled t) (Spacing.After Ifs.Lifs) = (refl, refl, refl)
-
-tx-back : {n m : ℕ} {c c′ r r′ : Bool} {s s′ : Timestamp} {p p′ : Spacing} (b : ℕ) → n ≡ m → c ≡ c′ → s ≡ s′ → p ≡ p′ → r ≡ r′ → Action.Tx b n c s p r ≡ Action.Tx b m c′ s′ p′ r′
+tx-back : {n m : ℕ} {c c′ r r′ : Bool} {s s′ : Timestamp} {p p′ : NextTaskIfs} (b : ℕ) → n ≡ m → c ≡ c′ → s ≡ s′ → p ≡ p′ → r ≡ r′ → Action.Tx b n c s p r ≡ Action.Tx b m c′ s′ p′ r′
 tx-back b e f g h i = rw (e, f, g, h, i)
 
-rx-back : {r r′ : Bool} {s s′ : Timestamp} {p p′ : Spacing} (b : ℕ) → s ≡ s′ → p ≡ p′ → r ≡ r′ → Action.Rx b s p r ≡ Action.Rx b s′ p′ r′
+rx-back : {r r′ : Bool} {s s′ : Timestamp} {p p′ : NextTaskIfs} (b : ℕ) → s ≡ s′ → p ≡ p′ → r ≡ r′ → Action.Rx b s p r ≡ Action.Rx b s′ p′ r′
 rx-back b g h i = rw (g, h, i)
 
 fields-action : (a : Action) → ActionFits a → actionFrom (actionFields a) ≡ a
@@ -198,10 +171,10 @@ fields-action (Action.Stop (StopListening.Before t true)) F = refl
 fields-action (Action.Stop (StopListening.Before t false)) F = refl
 fields-action Action.ReadHeader F = refl
 fields-action (Action.Tx b n cca start spacing rollback) F =
-    let f = tx-flags cca rollback start spacing in
+    let f = flags-back cca rollback start spacing in
     let e : n % 256 ≡ n = omega (arith, F .0) in
     tx-back b e (f .0) (f .2) (f .3) (f .1)
-fields-action (Action.Rx b start spacing rollback) F = let f = rx-flags rollback start spacing in rx-back b (f .1) (f .2) (f .0)
+fields-action (Action.Rx b start spacing rollback) F = let f = flags-back false rollback start spacing in rx-back b (f .2) (f .3) (f .1)
 fields-action (Action.Off true) F = refl
 fields-action (Action.Off false) F = refl
 

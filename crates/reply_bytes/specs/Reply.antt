@@ -1,13 +1,14 @@
 -- The reply's 48 bytes: docs/LAYOUTS.md, "The reply's 48 bytes".
 -- Assumes nothing.
-use Prim.Native.Nat.{ℕ, _+_, _-_, _/_, _%_, _^_, _<_}
+use Prim.Native.Nat.{ℕ, _+_, _-_, _*_, _/_, _%_, _^_, _<_}
 use mathlib.Core.Path.{_≡_}
-use mathlib.Core.Bool.{Bool, cond}
+use mathlib.Core.Bool.{Bool, false, cond}
 use mathlib.Core.List.{List, [], _∷_, _++_}
 use lib.Dec.{eqb}
 use lib.ListN.{getD}
 use Rattle.util.specs.Bytes.{numberAt, bytesOf}
 use Rattle.phy.specs.declared.Ifs.{Ifs}
+use Rattle.phy.specs.Phy.{ifsCode}
 use Rattle.tasks.specs.declared.Action.{Action}
 use Rattle.tasks.specs.declared.Answer.{Answer}
 use Rattle.tasks.specs.declared.Answers.{Answers}
@@ -15,7 +16,7 @@ use Rattle.tasks.specs.declared.Cause.{Cause}
 use Rattle.tasks.specs.declared.Reply.{Reply}
 use Rattle.tasks.specs.declared.Response.{Response}
 use Rattle.tasks.specs.declared.RxResult.{RxResult}
-use Rattle.tasks.specs.declared.Spacing.{Spacing}
+use Rattle.tasks.specs.declared.NextTaskIfs.{NextTaskIfs}
 use Rattle.tasks.specs.declared.StopListening.{StopListening}
 use Rattle.tasks.specs.declared.TaskDirection.{TaskDirection}
 use Rattle.tasks.specs.declared.Timestamp.{Timestamp}
@@ -26,14 +27,9 @@ use Rattle.reply_bytes.specs.declared.AnswerFields.{AnswerFields}
 -- ---- The action
 
 -- "bits 3 and 4 spacing: 0 none, 1 ACK, 2 short, 3 long"
-unfoldable pub ifsBits : Ifs → ℕ
-ifsBits Ifs.Aifs = 8
-ifsBits Ifs.Sifs = 16
-ifsBits Ifs.Lifs = 24
-
-unfoldable pub spacingBits : Spacing → ℕ
-spacingBits Spacing.None = 0
-spacingBits (Spacing.After i) = ifsBits i
+unfoldable pub spacingBits : NextTaskIfs → ℕ
+spacingBits NextTaskIfs.None = 0
+spacingBits (NextTaskIfs.Is i) = 8 * (1 + ifsCode i)
 
 -- "bit 2 the start is a time"
 unfoldable pub startBit : Timestamp → ℕ
@@ -43,6 +39,10 @@ startBit (Timestamp.Scheduled t) = 4
 unfoldable pub startTime : Timestamp → ℕ
 startTime Timestamp.BestEffort = 0
 startTime (Timestamp.Scheduled t) = t
+
+-- "bit 0 channel check, bit 1 rollback", then the two above
+abbrev pub taskFlags : Bool → Bool → Timestamp → NextTaskIfs → ℕ
+taskFlags cca rollback start spacing = cond cca 1 0 + cond rollback 2 0 + startBit start + spacingBits spacing
 
 unfoldable pub directionCode : TaskDirection → ℕ
 directionCode TaskDirection.Any = 2
@@ -70,9 +70,9 @@ actionFields Action.Listen = plainAction 4
 actionFields (Action.Stop p) = stopFields p
 actionFields Action.ReadHeader = plainAction 8
 actionFields (Action.Tx b n cca start spacing rollback) =
-    actionOf 9 b (n % 256) (cond cca 1 0 + cond rollback 2 0 + startBit start + spacingBits spacing) (startTime start)
+    actionOf 9 b (n % 256) (taskFlags cca rollback start spacing) (startTime start)
 actionFields (Action.Rx b start spacing rollback) =
-    actionOf 10 b 0 (cond rollback 2 0 + startBit start + spacingBits spacing) (startTime start)
+    actionOf 10 b 0 (taskFlags false rollback start spacing) (startTime start)
 actionFields (Action.Off rollback) = actionOf 11 0 0 (cond rollback 2 0) 0
 
 -- ---- The answers
@@ -146,9 +146,9 @@ writtenReply r = writtenFields (actionFields (r .action)) (firstFields (r .answe
 abbrev pub bit : ℕ → ℕ → Bool
 bit k flags = eqb (flags / 2 ^ k % 2) 1
 
-abbrev pub spacingAt : ℕ → Spacing
+abbrev pub spacingAt : ℕ → NextTaskIfs
 spacingAt flags =
-    getD (Spacing.None ∷ Spacing.After Ifs.Aifs ∷ Spacing.After Ifs.Sifs ∷ Spacing.After Ifs.Lifs ∷ []) (flags / 8) Spacing.None
+    getD (NextTaskIfs.None ∷ NextTaskIfs.Is Ifs.Aifs ∷ NextTaskIfs.Is Ifs.Sifs ∷ NextTaskIfs.Is Ifs.Lifs ∷ []) (flags / 8) NextTaskIfs.None
 
 abbrev pub startAt : ℕ → ℕ → Timestamp
 startAt flags time = cond (bit 2 flags) (Timestamp.Scheduled time) Timestamp.BestEffort

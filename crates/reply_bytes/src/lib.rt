@@ -2,16 +2,15 @@
 ghost use Prim.Native.Nat.{_≤_};
 ghost use mathlib.Core.Path.{_≡_};
 ghost use mathlib.Core.Bool.{cond};
-ghost use Rattle.reply_bytes.specs.Reply.{ifsBits, spacingBits, startBit, startTime, directionCode, actionOf, stopFields, actionFields, cameTo, schedulingFields, causeFields, receivedFields, responseFields, noAnswer, answerFields, firstFields, secondFields, writtenFields, writtenReply};
-use phy::Ifs;
+ghost use Rattle.reply_bytes.specs.Reply.{spacingBits, startBit, startTime, taskFlags, directionCode, actionOf, stopFields, actionFields, cameTo, schedulingFields, causeFields, receivedFields, responseFields, noAnswer, answerFields, firstFields, secondFields, writtenFields, writtenReply};
 use tasks::Action;
 use tasks::Answer;
 use tasks::Answers;
 use tasks::Cause;
+use tasks::NextTaskIfs;
 use tasks::Reply;
 use tasks::Response;
 use tasks::RxResult;
-use tasks::Spacing;
 use tasks::StopListening;
 use tasks::TaskDirection;
 use tasks::Timestamp;
@@ -48,22 +47,12 @@ fn flag_bit(flag: bool, bit: u8) -> u8
     if flag { bit } else { 0 }
 }
 
-fn ifs_bits(i: Ifs) -> u8
-    ensures { λ r. ⌜ (r ≡ ifsBits i) × (r ≤ 24) ⌝ }
-{
-    match i {
-        Ifs::Aifs => 8,
-        Ifs::Sifs => 16,
-        Ifs::Lifs => 24,
-    }
-}
-
-fn spacing_bits(s: Spacing) -> u8
+fn spacing_bits(s: NextTaskIfs) -> u8
     ensures { λ r. ⌜ (r ≡ spacingBits s) × (r ≤ 24) ⌝ }
 {
     match s {
-        Spacing::None => 0,
-        Spacing::After(i) => ifs_bits(i),
+        NextTaskIfs::None => 0,
+        NextTaskIfs::Is(i) => 8 * (1 + phy::ifs_code(i)),
     }
 }
 
@@ -83,6 +72,12 @@ fn start_time(start: Timestamp) -> u64
         Timestamp::BestEffort => 0,
         Timestamp::Scheduled(t) => t,
     }
+}
+
+fn task_flags(cca: bool, rollback: bool, start: Timestamp, spacing: NextTaskIfs) -> u8
+    ensures { λ r. ⌜ r ≡ taskFlags cca rollback start spacing ⌝ }
+{
+    flag_bit(cca, 1) + flag_bit(rollback, 2) + start_bit(start) + spacing_bits(spacing)
 }
 
 fn direction_code(d: TaskDirection) -> u8
@@ -126,17 +121,20 @@ fn action_fields(a: Action) -> ActionFields
         Action::Listen => action_of(4, 0, 0, 0, 0),
         Action::Stop(p) => stop_fields(p),
         Action::ReadHeader => action_of(8, 0, 0, 0, 0),
-        Action::Tx(b, n, cca, start, spacing, rollback) => {
-            let flags = flag_bit(cca, 1)
-                + flag_bit(rollback, 2)
-                + start_bit(start)
-                + spacing_bits(spacing);
-            action_of(9, b, (n % 256) as u8, flags, start_time(start))
-        }
-        Action::Rx(b, start, spacing, rollback) => {
-            let flags = flag_bit(rollback, 2) + start_bit(start) + spacing_bits(spacing);
-            action_of(10, b, 0, flags, start_time(start))
-        }
+        Action::Tx(b, n, cca, start, spacing, rollback) => action_of(
+            9,
+            b,
+            (n % 256) as u8,
+            task_flags(cca, rollback, start, spacing),
+            start_time(start),
+        ),
+        Action::Rx(b, start, spacing, rollback) => action_of(
+            10,
+            b,
+            0,
+            task_flags(false, rollback, start, spacing),
+            start_time(start),
+        ),
         Action::Off(rollback) => action_of(11, 0, 0, flag_bit(rollback, 2), 0),
     }
 }

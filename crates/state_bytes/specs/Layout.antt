@@ -1,35 +1,30 @@
 -- The state's 64 bytes: docs/LAYOUTS.md, "The state's 64 bytes".
 -- Assumes nothing.
 use Prim.Native.Nat.{ℕ, _+_}
-use mathlib.Core.Bool.{Bool, true, false}
 use mathlib.Core.List.{List, _∷_, _++_}
 use lib.Dec.{eqb}
 use lib.ListN.{getD, replicate}
-use Rattle.util.specs.Bytes.{numberAt, bytesOf}
+use Rattle.util.specs.Bytes.{flagNumber, numberAt, bytesOf}
 use Rattle.radio_frame.specs.declared.Settings.{Settings}
 use Rattle.tasks.specs.declared.State.{State}
 use Rattle.tasks.specs.declared.TxTask.{TxTask}
-use Rattle.state_bytes.specs.declared.Parts.{Parts}
-use Rattle.state_bytes.specs.Parts.{waitParts, waitAt}
-
-abbrev pub flagByte : Bool → ℕ
-flagByte true = 1
-flagByte false = 0
+use Rattle.wait_parts.specs.declared.Parts.{Parts}
+use Rattle.wait_parts.specs.Parts.{waitParts, waitAt}
 
 -- token, buffer, Tx length: 7 bytes
 abbrev pub writtenTask : TxTask → List ℕ
 writtenTask q = bytesOf 4 (q .token) ++ q .buffer ∷ bytesOf 2 (q .length)
 
 -- bytes 0 to 16: the settings; 17 to 44: the wait; the rest 0
-unfoldable pub writtenParts : Settings → ℕ → Parts → List ℕ
-writtenParts set implicit p =
+unfoldable pub writtenParts : Settings → Parts → List ℕ
+writtenParts set p =
     set .count
     ∷ set .headroom
     ∷ set .tailroom
     ∷ set .«fcs_length»
     ∷ bytesOf 8 (set .«hardware_addr»)
     ++ bytesOf 2 (set .«pan_id»)
-    ++ implicit
+    ++ flagNumber (set .«implicit_broadcast»)
     ∷ set .«ack_buffer»
     ∷ set .«spare_buffer»
     ∷ p .kind
@@ -44,7 +39,7 @@ writtenParts set implicit p =
     ++ replicate 19 0
 
 unfoldable pub writtenState : State → List ℕ
-writtenState s = writtenParts (s .set) (flagByte (s .set .«implicit_broadcast»)) (waitParts (s .wait))
+writtenState s = writtenParts (s .set) (waitParts (s .wait))
 
 -- the same table, read
 

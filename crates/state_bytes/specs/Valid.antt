@@ -2,18 +2,18 @@
 -- Assumes nothing.
 use Prim.Native.Nat.{ℕ, _*_, _^_, _<_}
 use mathlib.Core.Path.{_≡_}
+use mathlib.Core.Logic.{_↔_}
 use mathlib.Core.Bool.{Bool, true, false, cond, not, _&&_}
 use mathlib.Core.List.{List, [], _∷_}
 use lib.Dec.{ltb, eqb}
 use Rattle.util.specs.Bytes.{AllBytes}
 use Rattle.radio_frame.specs.declared.Settings.{Settings}
-use Rattle.radio_frame.specs.Settings.{settingsRefusal}
+use Rattle.radio_frame.specs.Settings.{bufferLength, settingsRefusal}
 use Rattle.tasks.specs.declared.Slot.{Slot}
 use Rattle.tasks.specs.declared.State.{State}
-use Rattle.tasks.specs.Requests.{pendingOf}
-use Rattle.state_bytes.specs.declared.Part.{Part}
+use Rattle.tasks.specs.Pending.{pendingOf}
 use Rattle.state_bytes.specs.declared.Decoded.{Decoded}
-use Rattle.state_bytes.specs.Parts.{waitParts}
+use Rattle.wait_parts.specs.Parts.{waitParts, PartFit}
 use Rattle.state_bytes.specs.Layout.{writtenState, stateAt}
 
 -- ---- "some state with settings that pass 2 to 4, in-range buffers all different and open tokens different"
@@ -35,7 +35,7 @@ slotsDiffer second (Slot.Held t b) = differsFrom t b second
 -- settings pass 2 to 4 with a pool of their own size: the length of the pool at hand is no part of a state
 unfoldable pub validState : State → Bool
 validState s =
-    eqb (settingsRefusal (s .set) (144 * s .set .count)) 0
+    eqb (settingsRefusal (s .set) (bufferLength * s .set .count)) 0
     && ((slotFits (s .set) (pendingOf (s .wait) .first) && slotFits (s .set) (pendingOf (s .wait) .second))
     && slotsDiffer (pendingOf (s .wait) .second) (pendingOf (s .wait) .first))
 
@@ -54,6 +54,16 @@ holdsState bytes = validState (stateAt bytes) && sameList (writtenState (stateAt
 unfoldable pub decodedOf : List ℕ → Decoded
 decodedOf bytes = cond (holdsState bytes) (Decoded.Valid (stateAt bytes)) Decoded.Invalid
 
+-- document 01's refusal number of each case: "1. .. the state bytes are not what some state .. is written as."
+unfoldable pub decodedRefusal : Decoded → ℕ
+decodedRefusal (Decoded.Valid s) = 0
+decodedRefusal Decoded.Invalid = 1
+
+-- what decode answers: the case, and document 01's number for it
+pub record Decodes (bytes : List ℕ) (r : Decoded) : Type 0 where
+  pub case : r ≡ decodedOf bytes
+  pub refusal : decodedRefusal r ≡ cond (holdsState bytes) 0 1
+
 -- ---- Laws of these definitions; proofs/RoundTrip.antt has their proofs.
 
 -- the numbers of a state fit the widths that the state's types have
@@ -66,10 +76,6 @@ pub record SettingsFit (set : Settings) : Type 0 where
   pub pan : set .«pan_id» < 2 ^ 16
   pub ack : set .«ack_buffer» < 2 ^ 8
   pub spare : set .«spare_buffer» < 2 ^ 8
-
-abbrev pub PartFit : Part → Type 0
-PartFit p =
-    (p .task .token < 2 ^ 32) × (p .task .buffer < 2 ^ 8) × (p .task .length < 2 ^ 16) × (p .number < 2 ^ 8) × (p .time < 2 ^ 64)
 
 pub record StateFits (s : State) : Type 0 where
   pub settings : SettingsFit (s .set)
@@ -92,4 +98,4 @@ abbrev pub HeldExactly : Type 0
 HeldExactly =
     (bytes : List ℕ) →
     AllBytes bytes →
-    (holdsState bytes ≡ true → WrittenFrom bytes) × (WrittenFrom bytes → holdsState bytes ≡ true)
+    holdsState bytes ≡ true ↔ WrittenFrom bytes

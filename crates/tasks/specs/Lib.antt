@@ -1,2 +1,2 @@
-pub mod Requests
-pub mod Results
+pub mod Pending
+pub mod Answers

@@ -1,9 +1,8 @@
-// Requests, radio tasks, their results, the waits, and what of a state decides a request's refusal (driver.rs, tasks.rs).
+// Requests, radio tasks, their results, the waits, the unanswered requests of a wait, and the one form of answers (driver.rs,
+// tasks.rs).
 ghost use mathlib.Core.Path.{_≡_};
-ghost use mathlib.Core.Bool.{cond};
-ghost use Rattle.tasks.specs.Requests.{leftSlot, nextSlot, askedSlot, stopSlot, transitionSlots, pendingOf, slotHasToken, slotHasBuffer, tokenHeld, bufferHeld, timed, row, allowedOf, notAllowed, lengthUnfit, requestRefusal};
-ghost use Rattle.tasks.specs.Results.{receivedUnfit, receivedRefusal, owedAnswer, leaveOff, leaveReceiving, leaveSending, leaveSendingAck, ackResponse, ackReceived, leaveReceivingAck, leaveOf};
-ghost use Rattle.tasks.specs.declared.Answers.{Answers};
+ghost use Rattle.tasks.specs.Pending.{leftSlot, nextSlot, askedSlot, stopSlot, transitionSlots, pendingOf};
+ghost use Rattle.tasks.specs.Answers.{toTx, toRx, answersOf};
 use phy::Ifs;
 use radio_frame::AckSeqNum;
 use radio_frame::Settings;
@@ -148,9 +147,9 @@ pub struct State {
 }
 
 // The spacing before a scheduled task.
-pub enum Spacing {
+pub enum NextTaskIfs {
     None,
-    After(Ifs),
+    Is(Ifs),
 }
 
 // Which requests an ask takes.
@@ -175,8 +174,8 @@ pub enum Action {
     Listen,
     Stop(StopListening),
     ReadHeader,
-    Tx(u8, u16, bool, Timestamp, Spacing, bool),
-    Rx(u8, Timestamp, Spacing, bool),
+    Tx(u8, u16, bool, Timestamp, NextTaskIfs, bool),
+    Rx(u8, Timestamp, NextTaskIfs, bool),
     Off(bool),
 }
 
@@ -194,6 +193,12 @@ pub struct Answer {
     pub response: Response,
 }
 
+// What leaving a task owes: at most one answer.
+pub enum Owed {
+    None,
+    One(Answer),
+}
+
 // Up to two answers, the earlier request's first.
 pub enum Answers {
     None,
@@ -206,7 +211,20 @@ pub struct Reply {
     pub answers: Answers,
 }
 
-// ---- What is held, and the refusals of a request
+// Which starts a request may have.
+pub enum Starts {
+    Never,
+    BestEffort,
+    Any,
+}
+
+// The starts that a wait allows, by direction.
+pub struct Allowed {
+    pub tx: Starts,
+    pub rx: Starts,
+}
+
+// ---- The unanswered requests of a wait
 
 // The token and the buffer of an unanswered request.
 pub enum Slot {
@@ -315,272 +333,36 @@ pub fn pending_requests(w: Wait) -> Pending
     }
 }
 
-fn slot_has_token(h: Slot, token: u32) -> bool
-    ensures { λ r. ⌜ r ≡ slotHasToken h token ⌝ }
+// ---- Answers
+
+// An answer to a transmit request: its token, its buffer back, what it came to.
+pub fn tx_answer(tx: TxTask, response: Response) -> Answer
+    ensures { λ r. ⌜ r ≡ toTx tx response ⌝ }
 {
-    match h {
-        Slot::Empty => false,
-        Slot::Held(t, b) => t == token,
+    Answer {
+        token: tx.token,
+        buffer: tx.buffer,
+        response: response,
     }
 }
 
-fn slot_has_buffer(h: Slot, buffer: u8) -> bool
-    ensures { λ r. ⌜ r ≡ slotHasBuffer h buffer ⌝ }
+// An answer to a receive request.
+pub fn rx_answer(rx: RxTask, response: Response) -> Answer
+    ensures { λ r. ⌜ r ≡ toRx rx response ⌝ }
 {
-    match h {
-        Slot::Empty => false,
-        Slot::Held(t, b) => b == buffer,
+    Answer {
+        token: rx.token,
+        buffer: rx.buffer,
+        response: response,
     }
 }
 
-fn token_held(w: Wait, token: u32) -> bool
-    ensures { λ r. ⌜ r ≡ tokenHeld w token ⌝ }
+// What is owed, as the answers of a call.
+pub fn answers_of(o: Owed) -> Answers
+    ensures { λ r. ⌜ r ≡ answersOf o ⌝ }
 {
-    let p = pending_requests(w);
-    let first = p.first;
-    let second = p.second;
-    util::either(slot_has_token(first, token), slot_has_token(second, token))
-}
-
-fn buffer_held(s: State, buffer: u8) -> bool
-    ensures { λ r. ⌜ r ≡ bufferHeld s buffer ⌝ }
-{
-    let w = s.wait;
-    let p = pending_requests(w);
-    let first = p.first;
-    let second = p.second;
-    util::either(
-        util::either(s.set.ack_buffer == buffer, s.set.spare_buffer == buffer),
-        util::either(
-            slot_has_buffer(first, buffer),
-            slot_has_buffer(second, buffer),
-        ),
-    )
-}
-
-fn is_timed(start: Timestamp) -> bool
-    ensures { λ r. ⌜ r ≡ timed start ⌝ }
-{
-    match start {
-        Timestamp::BestEffort => false,
-        Timestamp::Scheduled(t) => true,
-    }
-}
-
-// Which requests a wait allows beside a best-effort Tx.
-pub struct Allowed {
-    pub timedTx: bool,
-    pub rx: bool,
-    pub timedRx: bool,
-}
-
-fn allow(timed_tx: bool, rx: bool, timed_rx: bool) -> Allowed
-    ensures { λ r. ⌜ r ≡ row «timed_tx» rx «timed_rx» ⌝ }
-{
-    Allowed {
-        timedTx: timed_tx,
-        rx: rx,
-        timedRx: timed_rx,
-    }
-}
-
-fn allowed_in(a: Asked) -> Allowed
-    ensures { λ r. ⌜ r ≡ allowedOf a ⌝ }
-{
-    match a {
-        Asked::Idle => allow(true, true, true),
-        Asked::AfterWindow(q) => allow(true, false, false),
-        Asked::AfterAckWindow(q, t) => allow(true, true, false),
-        Asked::Receiving(q, i) => allow(true, true, false),
-        Asked::Sending(q) => allow(false, true, false),
-        Asked::SendingAck(i) => allow(false, true, false),
-        Asked::ReceivingAck(b) => allow(true, true, false),
-    }
-}
-
-fn is_not_allowed(a: Asked, task: Task, start: Timestamp) -> bool
-    ensures { λ r. ⌜ r ≡ notAllowed (allowedOf a) start task ⌝ }
-{
-    let permits = allowed_in(a);
-    let time = is_timed(start);
-    match task {
-        Task::Tx(n, c) => util::both(time, !permits.timedTx),
-        Task::Rx => util::either(!permits.rx, util::both(time, !permits.timedRx)),
-    }
-}
-
-fn is_length_unfit(set: Settings, task: Task) -> bool
-    ensures { λ r. ⌜ r ≡ lengthUnfit set task ⌝ }
-{
-    match task {
-        Task::Tx(n, c) => util::either(n < 3, 127 < (n as u32) + (set.fcs_length as u32)),
-        Task::Rx => false,
-    }
-}
-
-fn refuse_if(flag: bool, refusal: u8, later: u8) -> u8
-    ensures { λ r. ⌜ r ≡ cond flag refusal later ⌝ }
-{
-    if flag { refusal } else { later }
-}
-
-// The first of refusals 6 to 9 that a request meets in a state that asks, or 0.
-pub fn request_refusal(s: State, a: Asked, q: Request) -> u8
-    ensures { λ r. ⌜ r ≡ requestRefusal s a q ⌝ }
-{
-    let w = s.wait;
-    let set = s.set;
-    let task = q.task;
-    let start = q.start;
-    let direction = refuse_if(is_not_allowed(a, task, start), 9, 0);
-    let length = refuse_if(is_length_unfit(set, task), 8, direction);
-    let unfit = util::either(set.count <= q.buffer, buffer_held(s, q.buffer));
-    refuse_if(token_held(w, q.token), 6, refuse_if(unfit, 7, length))
-}
-
-// ---- Results and answers
-
-// Whether a received length is refused.
-fn is_received_unfit(set: Settings, r: RxResult) -> bool
-    ensures { λ x. ⌜ x ≡ receivedUnfit set r ⌝ }
-{
-    match r {
-        RxResult::Frame(n, t) => util::either(n == 0, 127 < (n as u32) + (set.fcs_length as u32)),
-        RxResult::RxWindowEnded => false,
-        RxResult::CrcError(t) => false,
-    }
-}
-
-// Refusal 10 where a receive result has a length that is refused, or 0.
-pub fn received_refusal(set: Settings, r: RxResult) -> u8
-    ensures { λ x. ⌜ x ≡ receivedRefusal set r ⌝ }
-{
-    refuse_if(is_received_unfit(set, r), 10, 0)
-}
-
-// What leaving a task comes to: refusal 5 where the result is not one of that task's, 10, or 0 and the answer that is owed.
-pub struct Leave {
-    pub refusal: u8,
-    pub answers: Answers,
-}
-
-// No answer: the result does not fit (5), or nothing is owed (0).
-fn no_answer(refusal: u8) -> Leave
-    ensures { λ x. ⌜ x ≡ record { refusal = refusal; answers = Answers.None } ⌝ }
-{
-    Leave {
-        refusal: refusal,
-        answers: Answers::None,
-    }
-}
-
-// An answer that is owed, unless it is refused.
-fn owed(refusal: u8, token: u32, buffer: u8, response: Response) -> Leave
-    ensures { λ x. ⌜ x ≡ owedAnswer refusal token buffer response ⌝ }
-{
-    Leave {
-        refusal: refusal,
-        answers: Answers::One(Answer {
-            token: token,
-            buffer: buffer,
-            response: response,
-        }),
-    }
-}
-
-fn leave_off(r: TaskResult) -> Leave
-    ensures { λ x. ⌜ x ≡ leaveOff r ⌝ }
-{
-    match r {
-        TaskResult::Off => no_answer(0),
-        TaskResult::Sent(t) => no_answer(5),
-        TaskResult::Rx(x) => no_answer(5),
-    }
-}
-
-// Leaving a reception: the receive result is the answer.
-pub fn leave_receiving(set: Settings, q: RxTask, r: TaskResult) -> Leave
-    ensures { λ x. ⌜ x ≡ leaveReceiving set q r ⌝ }
-{
-    match r {
-        TaskResult::Off => no_answer(5),
-        TaskResult::Sent(t) => no_answer(5),
-        TaskResult::Rx(x) => owed(
-            received_refusal(set, x),
-            q.token,
-            q.buffer,
-            Response::Received(x),
-        ),
-    }
-}
-
-fn leave_sending(q: TxTask, r: TaskResult) -> Leave
-    ensures { λ x. ⌜ x ≡ leaveSending q r ⌝ }
-{
-    match r {
-        TaskResult::Off => no_answer(5),
-        TaskResult::Sent(t) => owed(0, q.token, q.buffer, Response::Sent(t)),
-        TaskResult::Rx(x) => no_answer(5),
-    }
-}
-
-fn leave_sending_ack(r: TaskResult) -> Leave
-    ensures { λ x. ⌜ x ≡ leaveSendingAck r ⌝ }
-{
-    match r {
-        TaskResult::Off => no_answer(5),
-        TaskResult::Sent(t) => no_answer(0),
-        TaskResult::Rx(x) => no_answer(5),
-    }
-}
-
-// Sent where the frame of a length in the spare buffer is the awaited acknowledgement, else Nack.
-fn ack_response(set: Settings, pool: &[u8], a: AwaitedAck, length: u16) -> Response
-    ensures { λ x. ⌜ x ≡ ackResponse set (now (pool .entry)) a length ⌝ }
-{
-    let at = radio_frame::frame_start(set, set.spare_buffer) as usize;
-    let frame = util::part(pool, at, 3);
-    if ack::is_ack_for(frame, length, a.number) {
-        Response::Sent(a.time)
-    } else {
-        Response::Nack(a.time)
-    }
-}
-
-fn ack_received(set: Settings, pool: &[u8], a: AwaitedAck, r: RxResult) -> Leave
-    ensures { λ x. ⌜ x ≡ ackReceived set (now (pool .entry)) a r ⌝ }
-{
-    match r {
-        RxResult::Frame(n, t) => owed(
-            received_refusal(set, r),
-            a.task.token,
-            a.task.buffer,
-            ack_response(set, pool, a, n),
-        ),
-        RxResult::RxWindowEnded => no_answer(5),
-        RxResult::CrcError(t) => owed(0, a.task.token, a.task.buffer, Response::Nack(a.time)),
-    }
-}
-
-fn leave_receiving_ack(set: Settings, pool: &[u8], a: AwaitedAck, r: TaskResult) -> Leave
-    ensures { λ x. ⌜ x ≡ leaveReceivingAck set (now (pool .entry)) a r ⌝ }
-{
-    match r {
-        TaskResult::Off => no_answer(5),
-        TaskResult::Sent(t) => no_answer(5),
-        TaskResult::Rx(x) => ack_received(set, pool, a, x),
-    }
-}
-
-// Leaving a task with a result.
-pub fn leave_task(set: Settings, pool: &[u8], l: Left, r: TaskResult) -> Leave
-    ensures { λ x. ⌜ x ≡ leaveOf set (now (pool .entry)) r l ⌝ }
-{
-    match l {
-        Left::Off => leave_off(r),
-        Left::Receiving(q) => leave_receiving(set, q, r),
-        Left::Sending(q) => leave_sending(q, r),
-        Left::SendingAck => leave_sending_ack(r),
-        Left::ReceivingAck(a) => leave_receiving_ack(set, pool, a, r),
+    match o {
+        Owed::None => Answers::None,
+        Owed::One(a) => Answers::One(a),
     }
 }

@@ -1,9 +1,11 @@
 -- Numbers in bytes: writing and reading.
 -- Assumes nothing.
-use Prim.Native.Nat.{ℕ, zero, suc, _+_, _*_, _/_, _%_, _^_, _<_}
-use mathlib.Core.Path.{_≡_, refl, _∙_, ap}
+use Prim.Native.Nat.{ℕ, zero, suc, _+_, _*_, _/_, _%_, _^_, _≤_, _<_}
+use mathlib.Core.Path.{_≡_, refl, sym, _∙_, ap}
 use mathlib.Core.List.{List, [], _∷_}
-use lib.ListN.{getD}
+use lib.ListN.{getD, take, drop}
+use lib.Seq.{getD-take, getD-drop}
+use native.Mathlib.Nat.{pow-succ', mul-assoc}
 use native.Mathlib.Omega.{arith}
 use Rattle.util.specs.Bytes.{numberAt, bytesOf, AllBytes, ReadBack, FitsBytes}
 
@@ -35,3 +37,36 @@ fits-bytes bytes A at (suc n) =
     let low = byte-at bytes A at in
     let high = fits-bytes bytes A (at + 1) n in
     omega arith
+
+-- a number cut in two: its low n bytes, and the m bytes above them
+cut : (bytes : List ℕ) (at n m : ℕ) → numberAt bytes at (n + m) ≡ numberAt bytes at n + 256 ^ n * numberAt bytes (at + n) m
+unfolding numberAt
+cut bytes at zero m =
+    let e : at + 0 ≡ at = omega arith in
+    let f : 0 + m ≡ m = omega arith in
+    rw (e, f) (omega arith)
+cut bytes at (suc n) m =
+    let e : suc n + m ≡ suc (n + m) = omega arith in
+    let f : at + suc n ≡ at + 1 + n = omega arith in
+    rw (e, f, pow-succ' 256 n, mul-assoc 256 (256 ^ n) (numberAt bytes (at + 1 + n) m), cut bytes (at + 1) n m) (omega arith)
+
+-- a part that holds all bytes of a number gives the same number
+in-part : (bytes : List ℕ) (at w k n : ℕ) → k + n ≤ w → numberAt (take w (drop at bytes)) k n ≡ numberAt bytes (at + k) n
+unfolding numberAt
+in-part bytes at w k zero h = refl
+in-part bytes at w k (suc n) h =
+    let e : at + (k + 1) ≡ at + k + 1 = omega arith in
+    rw (getD-take w (drop at bytes) k 0 (omega arith), getD-drop at bytes k 0, in-part bytes at w (k + 1) n (omega arith), e)
+
+-- so a number of twice n bytes is put together from the halves of the part that holds it
+pub halves :
+    (bytes field : List ℕ) (at n low high : ℕ) →
+    field ≡ take (n + n) (drop at bytes) →
+    low ≡ numberAt field 0 n →
+    high ≡ numberAt field n n →
+    low + 256 ^ n * high ≡ numberAt bytes at (n + n)
+halves bytes field at n low high e l h =
+    let z : at + 0 ≡ at = omega arith in
+    let first : low ≡ numberAt bytes at n = l ∙ ap (λ (f : List ℕ). numberAt f 0 n) e ∙ in-part bytes at (n + n) 0 n (omega arith) ∙ ap (λ (k : ℕ). numberAt bytes k n) z in
+    let second : high ≡ numberAt bytes (at + n) n = h ∙ ap (λ (f : List ℕ). numberAt f n n) e ∙ in-part bytes at (n + n) n n (omega arith) in
+    rw (first, second) (sym (cut bytes at n n))

@@ -1,9 +1,15 @@
--- Numbers in bytes.
+-- Flags as numbers, and numbers in bytes.
 -- Assumes nothing.
 use Prim.Native.Nat.{ℕ, zero, suc, _+_, _*_, _/_, _%_, _^_, _<_}
+use mathlib.Core.Bool.{Bool, true, false}
 use mathlib.Core.Path.{_≡_}
 use mathlib.Core.List.{List, [], _∷_}
 use lib.ListN.{getD}
+
+-- a flag as a number
+abbrev pub flagNumber : Bool → ℕ
+flagNumber true = 1
+flagNumber false = 0
 
 -- "each low byte first": the number that stands in the n bytes from a place on
 unfoldable pub numberAt : List ℕ → ℕ → ℕ → ℕ

@@ -46,6 +46,12 @@ impl Pair {
         Pair::new(state, &reply, pool)
     }
 
+    /// The library gets a null pointer for each slice of length 0.
+    pub fn null_if_empty(mut self) -> Pair {
+        self.library.null_if_empty = true;
+        self
+    }
+
     /// The state slice as the library left it.
     pub fn state(&self) -> &[u8] {
         self.library.state.get()

@@ -49,6 +49,8 @@ pub struct Slices {
     pub state: Guarded,
     pub reply: Guarded,
     pub pool: Guarded,
+    /// Whether a slice of length 0 is passed as a null pointer.
+    pub null_if_empty: bool,
 }
 
 impl Slices {
@@ -57,6 +59,7 @@ impl Slices {
             state: Guarded::new(state),
             reply: Guarded::new(reply),
             pool: Guarded::new(pool),
+            null_if_empty: false,
         }
     }
 
@@ -66,13 +69,21 @@ impl Slices {
 
     /// The three pointers with their lengths.
     fn parts(&mut self) -> (*mut u8, usize, *mut u8, usize, *mut u8, usize) {
+        let null_if_empty = self.null_if_empty;
+        let pointer = |slice: &mut [u8]| {
+            if null_if_empty && slice.is_empty() {
+                std::ptr::null_mut()
+            } else {
+                slice.as_mut_ptr()
+            }
+        };
         let (state, reply, pool) = (self.state.get_mut(), self.reply.get_mut(), self.pool.get_mut());
         (
-            state.as_mut_ptr(),
+            pointer(state),
             state.len(),
-            reply.as_mut_ptr(),
+            pointer(reply),
             reply.len(),
-            pool.as_mut_ptr(),
+            pointer(pool),
             pool.len(),
         )
     }
@@ -94,7 +105,7 @@ impl Slices {
             spare_buffer,
             ..
         } = *raw;
-        // SAFETY: the pointers come from three separate vectors, with their lengths.
+        // SAFETY: the pointers come from three separate vectors, with their lengths, or are null with length 0.
         unsafe {
             ffi::widosha_start(
                 count,
@@ -118,7 +129,7 @@ impl Slices {
 
     pub fn call(&mut self, raw: &Raw) -> u8 {
         let (s, sl, r, rl, p, pl) = self.parts();
-        // SAFETY: the pointers come from three separate vectors, with their lengths.
+        // SAFETY: the pointers come from three separate vectors, with their lengths, or are null with length 0.
         unsafe {
             match *raw {
                 Raw::Request {

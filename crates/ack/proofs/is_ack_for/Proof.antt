@@ -3,7 +3,7 @@
 use borrow.Author.Needs.{needs}
 use Rattle.ack.proofs.is_ack_for.Statement.{statement}
 use Rattle.ack.proofs.is_ack_for.Tie as tie
-use Rattle.ack.specs.Ack.{maskEFFF, acknowledges}
+use Rattle.ack.specs.Ack.{maskEFFF, threeBytes, acknowledges}
 
 byte-at-requires : tie.Need-byte-at-requires
 byte-at-requires c κs = search needs
@@ -32,16 +32,20 @@ both-requires c κs = search needs
 both-requires-2 : tie.Need-both-requires-2
 both-requires-2 c κs = search needs
 
+both-requires-3 : tie.Need-both-requires-3
+both-requires-3 c κs = search needs
+
 returns : tie.Need-returns
-unfolding acknowledges maskEFFF
+unfolding acknowledges threeBytes maskEFFF
 returns c =
-    let third = c .before .before in
+    let third = c .before .before .before in
     rw (
-      c .before .both .ensures,
+      c .before .both2 .ensures,
+      c .before .before .both .ensures,
       third .byte-at3 .ensures,
       third .before .byte-at2 .ensures,
       third .before .before .byte-at .ensures,
-    ) at (c .both2 .ensures)
+    ) at (c .both3 .ensures)
 
 pub is-ack-for-spec : {M : Type 1} → statement M
 is-ack-for-spec =
@@ -56,4 +60,5 @@ is-ack-for-spec =
     add-control
     both-requires
     both-requires-2
+    both-requires-3
     returns)

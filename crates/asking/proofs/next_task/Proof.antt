@@ -33,7 +33,7 @@ returns c =
       c .before .before .before .ack-seq-num .ensures,
       c .before .before .before .before .part .ensures,
       c .before .before .before .before .before .frame-start .ensures,
-    ))
+    ) refl)
 
 returns-2 : tie.Need-returns-2
 unfolding nextOf

@@ -21,8 +21,8 @@ refused-requires-2 c κs = search needs
 enum-known-a-2 : tie.Need-enum-known-a-2
 enum-known-a-2 c = search needs
 
-nack-requires : tie.Need-nack-requires
-nack-requires c κs = search needs
+tx-answer-requires : tie.Need-tx-answer-requires
+tx-answer-requires c κs = search needs
 
 to-idle-requires : tie.Need-to-idle-requires
 to-idle-requires c κs = search needs
@@ -53,33 +53,46 @@ to-off-requires-4 c κs = search needs
 
 returns : tie.Need-returns
 unfolding noneOf
-returns c = at-case (noneOf _) (c .before .enum-told .given .1) (c .refused .ensures)
+returns c =
+    let args = c .before .before .before .before .args in
+    at-case (noneOf (args .s)) (c .before .enum-told .given .1) (c .refused .ensures)
 
 returns-2 : tie.Need-returns-2
 unfolding noneOf
-returns-2 c = at-case (noneOf _) (c .before .before .a .given .1) (c .refused2 .ensures)
+returns-2 c =
+    let args = c .before .before .before .before .before .args in
+    at-case (noneOf (args .s)) (c .before .before .a .given .1) (c .refused2 .ensures)
 
 returns-3 : tie.Need-returns-3
 unfolding noneOf
 returns-3 c =
-    at-case (noneOf _) (c .before .before .before .a2 .given .1)
-    (rw (c .before .nack .ensures) at (c .to-idle .ensures))
+    let args = c .before .before .before .before .before .before .args in
+    at-case (noneOf (args .s)) (c .before .before .before .a2 .given .1)
+    (rw (c .before .tx-answer .ensures) at (c .to-idle .ensures))
 
 returns-4 : tie.Need-returns-4
 unfolding noneOf
-returns-4 c = at-case (noneOf _) (c .before .before .a3 .given .1) (c .to-off .ensures)
+returns-4 c =
+    let args = c .before .before .before .before .before .args in
+    at-case (noneOf (args .s)) (c .before .before .a3 .given .1) (c .to-off .ensures)
 
 returns-5 : tie.Need-returns-5
 unfolding noneOf
-returns-5 c = at-case (noneOf _) (c .before .before .a4 .given .1) (c .to-off2 .ensures)
+returns-5 c =
+    let args = c .before .before .before .before .before .args in
+    at-case (noneOf (args .s)) (c .before .before .a4 .given .1) (c .to-off2 .ensures)
 
 returns-6 : tie.Need-returns-6
 unfolding noneOf
-returns-6 c = at-case (noneOf _) (c .before .before .a5 .given .1) (c .to-off3 .ensures)
+returns-6 c =
+    let args = c .before .before .before .before .before .args in
+    at-case (noneOf (args .s)) (c .before .before .a5 .given .1) (c .to-off3 .ensures)
 
 returns-7 : tie.Need-returns-7
 unfolding noneOf
-returns-7 c = at-case (noneOf _) (c .before .before .a6 .given .1) (c .to-off4 .ensures)
+returns-7 c =
+    let args = c .before .before .before .before .before .args in
+    at-case (noneOf (args .s)) (c .before .before .a6 .given .1) (c .to-off4 .ensures)
 
 pub none-spec : {M : Type 1} → statement M
 none-spec =
@@ -90,7 +103,7 @@ none-spec =
     enum-known-a
     refused-requires-2
     enum-known-a-2
-    nack-requires
+    tx-answer-requires
     to-idle-requires
     enum-known-a-3
     to-off-requires

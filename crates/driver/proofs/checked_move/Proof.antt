@@ -1,7 +1,7 @@
 -- `driver::checked_move` meets its contract: refusals 2 to 4, then the wait's move.
 -- Assumes nothing.
 use borrow.Author.Needs.{needs}
-use Rattle.driver.specs.Step.{moveOf}
+use Rattle.engine.specs.Step.{moveOf}
 use Rattle.driver.proofs.checked_move.Statement.{statement}
 use Rattle.driver.proofs.checked_move.Tie as tie
 

@@ -12,8 +12,8 @@ use Rattle.tasks.specs.declared.Asked.{Asked}
 use Rattle.tasks.specs.declared.Wait.{Wait}
 use Rattle.moves.specs.declared.Move.{Move}
 use Rattle.moves.specs.Move.{guardedOf, toIdle}
-use Rattle.driver.specs.declared.Outcome.{Outcome}
-use Rattle.driver.specs.Step.{outcomeOf, startOf}
+use Rattle.engine.specs.declared.Outcome.{Outcome}
+use Rattle.engine.specs.Step.{outcomeOf, startOf}
 use Rattle.driver.proofs.Promises.{start-promises}
 use Rattle.driver.proofs.start.Statement.{statement}
 use Rattle.driver.proofs.start.Tie as tie

@@ -2,7 +2,7 @@
 -- every call hold of them.
 -- Assumes nothing.
 use borrow.Author.Needs.{needs}
-use Rattle.driver.specs.Step.{stepOf, stepPool}
+use Rattle.engine.specs.Step.{stepOf, stepPool}
 use Rattle.driver.proofs.Promises.{stepped}
 use Rattle.driver.proofs.step.Statement.{statement}
 use Rattle.driver.proofs.step.Tie as tie

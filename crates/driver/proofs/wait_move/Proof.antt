@@ -2,7 +2,7 @@
 -- Assumes nothing.
 use borrow.Author.Needs.{needs}
 use Rattle.util.proofs.Tests.{at-case}
-use Rattle.driver.specs.Step.{waitMove}
+use Rattle.engine.specs.Step.{waitMove}
 use Rattle.driver.proofs.wait_move.Statement.{statement}
 use Rattle.driver.proofs.wait_move.Tie as tie
 

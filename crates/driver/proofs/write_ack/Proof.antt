@@ -5,7 +5,7 @@ use borrow.Author.Tests.{eq-eqb, ne-eqb}
 use mathlib.Core.Path.{sym, _∙_}
 use lib.ListN.{length}
 use Rattle.radio_frame.specs.Settings.{settingsRefusal}
-use Rattle.driver.specs.Step.{startPool}
+use Rattle.engine.specs.Step.{startPool}
 use Rattle.driver.proofs.write_ack.Statement.{statement}
 use Rattle.driver.proofs.write_ack.Tie as tie
 

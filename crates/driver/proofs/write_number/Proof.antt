@@ -3,7 +3,7 @@
 use borrow.Author.Needs.{needs}
 use mathlib.Core.Path.{refl}
 use Rattle.util.proofs.Tests.{at-case}
-use Rattle.driver.specs.Step.{writtenBy}
+use Rattle.engine.specs.Step.{writtenBy}
 use Rattle.driver.proofs.write_number.Statement.{statement}
 use Rattle.driver.proofs.write_number.Tie as tie
 

@@ -46,7 +46,8 @@ returns c =
 returns-2 : tie.Need-returns-2
 unfolding requestFellBack
 returns-2 c =
-    at-case (requestFellBack _ _ _ _ _) (c .before .before .n2 .given .1)
+    let args = c .before .before .before .before .before .before .before .args in
+    at-case (requestFellBack (args .s) (args .pool .now) (args .l) (args .x) (args .cause)) (c .before .before .n2 .given .1)
     (c .refused .ensures)
 
 returns-3 : tie.Need-returns-3

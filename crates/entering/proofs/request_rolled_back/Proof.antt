@@ -1,10 +1,10 @@
--- `entering::request_rolled_back` meets its contract: each arm is what the definition says of the task that is left.
+-- `entering::request_rolled_back` meets its contract: each arm is what the definition says of that task.
 -- Assumes nothing.
 use borrow.Author.Needs.{needs}
 use Rattle.entering.proofs.request_rolled_back.Statement.{statement}
 use Rattle.entering.proofs.request_rolled_back.Tie as tie
-use Rattle.entering.specs.Entering.{requestRolledBack}
 use Rattle.util.proofs.Tests.{at-case}
+use Rattle.entering.specs.Entering.{requestRolledBack}
 
 enum-told : tie.Need-enum-told
 enum-told c = search needs
@@ -38,23 +38,33 @@ refused-requires-4 c κs = search needs
 
 returns : tie.Need-returns
 unfolding requestRolledBack
-returns c = at-case (requestRolledBack _ _) (c .before .enum-told .given .1) (c .refused .ensures)
+returns c =
+    let args = c .before .before .before .args in
+    at-case (requestRolledBack (args .s) (args .n)) (c .before .enum-told .given .1) (c .refused .ensures)
 
 returns-2 : tie.Need-returns-2
 unfolding requestRolledBack
-returns-2 c = at-case (requestRolledBack _ _) (c .before .before .l .given .1) (c .off-rolled-back .ensures)
+returns-2 c =
+    let args = c .before .before .before .before .args in
+    at-case (requestRolledBack (args .s) (args .n)) (c .before .before .l .given .1) (c .off-rolled-back .ensures)
 
 returns-3 : tie.Need-returns-3
 unfolding requestRolledBack
-returns-3 c = at-case (requestRolledBack _ _) (c .before .before .l2 .given .1) (c .refused2 .ensures)
+returns-3 c =
+    let args = c .before .before .before .before .args in
+    at-case (requestRolledBack (args .s) (args .n)) (c .before .before .l2 .given .1) (c .refused2 .ensures)
 
 returns-4 : tie.Need-returns-4
 unfolding requestRolledBack
-returns-4 c = at-case (requestRolledBack _ _) (c .before .enum-told2 .given .1) (c .refused3 .ensures)
+returns-4 c =
+    let args = c .before .before .before .args in
+    at-case (requestRolledBack (args .s) (args .n)) (c .before .enum-told2 .given .1) (c .refused3 .ensures)
 
 returns-5 : tie.Need-returns-5
 unfolding requestRolledBack
-returns-5 c = at-case (requestRolledBack _ _) (c .before .before .l3 .given .1) (c .refused4 .ensures)
+returns-5 c =
+    let args = c .before .before .before .before .args in
+    at-case (requestRolledBack (args .s) (args .n)) (c .before .before .l3 .given .1) (c .refused4 .ensures)
 
 pub request-rolled-back-spec : {M : Type 1} → statement M
 request-rolled-back-spec =

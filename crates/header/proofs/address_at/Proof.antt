@@ -7,7 +7,8 @@ use mathlib.Core.Path.{refl}
 use borrow.Author.Needs.{needs}
 use Rattle.header.proofs.address_at.Statement.{statement}
 use Rattle.header.proofs.address_at.Tie as tie
-use Rattle.header.specs.Header.{addressFound, addressOf}
+use Rattle.header.specs.Header.{addressOf}
+use Rattle.header.specs.Steps.{addressFound}
 use Rattle.util.proofs.Tests.{tests, at-case}
 
 enum-told : tie.Need-enum-told

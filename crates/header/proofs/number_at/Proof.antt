@@ -5,7 +5,7 @@ use lib.ListN.{length}
 use borrow.Author.Needs.{needs}
 use Rattle.header.proofs.number_at.Statement.{statement}
 use Rattle.header.proofs.number_at.Tie as tie
-use Rattle.header.specs.Header.{numberStep}
+use Rattle.header.specs.Steps.{numberStep}
 
 returns : tie.Need-returns
 unfolding numberStep

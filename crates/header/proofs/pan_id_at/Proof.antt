@@ -3,7 +3,8 @@
 use borrow.Author.Needs.{needs}
 use Rattle.header.proofs.pan_id_at.Statement.{statement}
 use Rattle.header.proofs.pan_id_at.Tie as tie
-use Rattle.header.specs.Header.{panIdFound, panIdOf}
+use Rattle.header.specs.Header.{panIdOf}
+use Rattle.header.specs.Steps.{panIdFound}
 use Rattle.util.proofs.Tests.{tests}
 
 returns : tie.Need-returns

@@ -1,10 +1,10 @@
 -- `leaves_c::lengths_number` meets its contract.
 -- Assumes nothing.
+use mathlib.Core.Path.{refl}
 use borrow.Author.Needs.{needs}
 use Rattle.leaves_c.proofs.lengths_number.Statement.{statement}
 use Rattle.leaves_c.proofs.lengths_number.Tie as tie
 use Rattle.leaves_c.specs.Leaves.{lengthsNumber}
-use Rattle.util.proofs.Tests.{tests}
 
 -- src/lib.rt:28:22
 cast-dst-pan-id : tie.Need-cast-dst-pan-id
@@ -49,7 +49,7 @@ add-result-3 c = search needs
 -- src/lib.rt:25:1
 returns : tie.Need-returns
 unfolding lengthsNumber
-returns c = search tests
+returns c = refl
 
 pub lengths-number-spec : {M : Type 1} → statement M
 lengths-number-spec =

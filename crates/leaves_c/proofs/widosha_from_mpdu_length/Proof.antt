@@ -9,13 +9,13 @@ from-mpdu-length-requires : tie.Need-from-mpdu-length-requires
 from-mpdu-length-requires c κs = search needs
 
 -- src/lib.rt:106:5
-ifs-number-requires : tie.Need-ifs-number-requires
-ifs-number-requires c κs = search needs
+ifs-code-requires : tie.Need-ifs-code-requires
+ifs-code-requires c κs = search needs
 
 -- src/lib.rt:102:1
 returns : tie.Need-returns
-returns c = rw (c .before .from-mpdu-length .ensures) at (c .ifs-number .ensures)
+returns c = rw (c .before .from-mpdu-length .ensures) at (c .ifs-code .ensures)
 
 pub widosha-from-mpdu-length-spec : {M : Type 1} → statement M
 widosha-from-mpdu-length-spec =
-    tie.close (tie.spec from-mpdu-length-requires ifs-number-requires returns)
+    tie.close (tie.spec from-mpdu-length-requires ifs-code-requires returns)

@@ -15,7 +15,7 @@ enum-known-start c = search needs
 
 returns : tie.Need-returns
 unfolding stopBefore
-returns c = at-case (stopBefore _) (c .enum-told .given .1) refl
+returns c = at-case (stopBefore (c .before .before .args .cca)) (c .enum-told .given .1) refl
 
 returns-2 : tie.Need-returns-2
 unfolding stopBefore

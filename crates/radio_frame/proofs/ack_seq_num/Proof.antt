@@ -20,24 +20,31 @@ byte-at-requires-3 c κs = search needs
 both-requires : tie.Need-both-requires
 both-requires c κs = search needs
 
+both-requires-2 : tie.Need-both-requires-2
+both-requires-2 c κs = search needs
+
 returns : tie.Need-returns
 returns c =
+    let number = c .before .before .before in
+    let control = number .before in
     is-wanted _ _
-    (c .before .before .before .before .before .byte-at .ensures)
-    (c .before .before .before .before .byte-at2 .ensures)
-    (c .before .before .byte-at3 .ensures)
-    (c .before .before .before .frame-control .ensures)
-    (c .before .both .ensures)
+    (control .before .before .byte-at .ensures)
+    (control .before .byte-at2 .ensures)
+    (number .byte-at3 .ensures)
+    (control .frame-control .ensures)
+    (rw (c .before .before .both .ensures) at (c .before .both2 .ensures))
     (c .if1 .taken)
 
 returns-2 : tie.Need-returns-2
 returns-2 c =
+    let number = c .before .before .before in
+    let control = number .before in
     not-wanted _ _
-    (c .before .before .before .before .before .byte-at .ensures)
-    (c .before .before .before .before .byte-at2 .ensures)
-    (c .before .before .byte-at3 .ensures)
-    (c .before .before .before .frame-control .ensures)
-    (c .before .both .ensures)
+    (control .before .before .byte-at .ensures)
+    (control .before .byte-at2 .ensures)
+    (number .byte-at3 .ensures)
+    (control .frame-control .ensures)
+    (rw (c .before .before .both .ensures) at (c .before .both2 .ensures))
     (c .if1 .left)
 
 pub ack-seq-num-spec : {M : Type 1} → statement M
@@ -49,5 +56,6 @@ ack-seq-num-spec =
     frame-control-requires
     byte-at-requires-3
     both-requires
+    both-requires-2
     returns
     returns-2)

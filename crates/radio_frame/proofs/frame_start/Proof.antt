@@ -1,5 +1,6 @@
 -- `radio_frame::frame_start` meets its contract: its sum is the definition's.
 -- Assumes nothing.
+use mathlib.Core.Path.{refl}
 use borrow.Author.Needs.{needs}
 use Rattle.radio_frame.proofs.frame_start.Statement.{statement}
 use Rattle.radio_frame.proofs.frame_start.Tie as tie
@@ -16,7 +17,7 @@ add-result c = search needs
 
 returns : tie.Need-returns
 unfolding frameStart
-returns c = search needs
+returns c = refl
 
 pub frame-start-spec : {M : Type 1} → statement M
 frame-start-spec = tie.close (tie.spec mul-result cast-result add-result returns)

@@ -14,6 +14,9 @@ cast-either c = search needs
 mul-either : tie.Need-mul-either
 mul-either c = search needs
 
+cast-either-2 : tie.Need-cast-either-2
+cast-either-2 c = search needs
+
 either-requires-2 : tie.Need-either-requires-2
 either-requires-2 c κs = search needs
 
@@ -23,4 +26,4 @@ returns c = rw (c .before .before .either .ensures) at (c .either2 .ensures)
 
 pub pool-unfit-spec : {M : Type 1} → statement M
 pool-unfit-spec =
-    tie.close (tie.spec either-requires cast-either mul-either either-requires-2 returns)
+    tie.close (tie.spec either-requires cast-either mul-either cast-either-2 either-requires-2 returns)

@@ -1,5 +1,6 @@
 -- `radio_frame::radio_frame` meets its contract: its sums are the definition's.
 -- Assumes nothing.
+use mathlib.Core.Path.{refl}
 use borrow.Author.Needs.{needs}
 use Rattle.radio_frame.proofs.radio_frame.Statement.{statement}
 use Rattle.radio_frame.proofs.radio_frame.Tie as tie
@@ -31,7 +32,7 @@ add-end c = search needs
 
 returns : tie.Need-returns
 unfolding radioFrameOf
-returns c = search needs
+returns c = refl
 
 pub radio-frame-spec : {M : Type 1} → statement M
 radio-frame-spec =

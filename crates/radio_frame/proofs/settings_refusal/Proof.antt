@@ -8,8 +8,8 @@ use Rattle.radio_frame.specs.Settings.{settingsRefusal}
 pool-unfit-requires : tie.Need-pool-unfit-requires
 pool-unfit-requires c κs = search needs
 
-lengths-unfit-requires : tie.Need-lengths-unfit-requires
-lengths-unfit-requires c κs = search needs
+rooms-unfit-requires : tie.Need-rooms-unfit-requires
+rooms-unfit-requires c κs = search needs
 
 own-buffers-unfit-requires : tie.Need-own-buffers-unfit-requires
 own-buffers-unfit-requires c κs = search needs
@@ -31,7 +31,7 @@ returns c =
       c .before .refuse-if2 .ensures,
       c .before .before .refuse-if .ensures,
       own .own-buffers-unfit .ensures,
-      own .before .lengths-unfit .ensures,
+      own .before .rooms-unfit .ensures,
       own .before .before .pool-unfit .ensures,
     ) at (c .refuse-if3 .ensures)
 
@@ -40,7 +40,7 @@ settings-refusal-spec =
     tie.close
     (tie.spec
     pool-unfit-requires
-    lengths-unfit-requires
+    rooms-unfit-requires
     own-buffers-unfit-requires
     refuse-if-requires
     refuse-if-requires-2

@@ -48,29 +48,11 @@ action-of-requires-5 c κs = search needs
 enum-known-a-3 : tie.Need-enum-known-a-3
 enum-known-a-3 c = search needs
 
-flag-bit-requires : tie.Need-flag-bit-requires
-flag-bit-requires c κs = search needs
-
-flag-bit-requires-2 : tie.Need-flag-bit-requires-2
-flag-bit-requires-2 c κs = search needs
-
-add-flags : tie.Need-add-flags
-add-flags c = search needs
-
-start-bit-requires : tie.Need-start-bit-requires
-start-bit-requires c κs = search needs
-
-add-flags-2 : tie.Need-add-flags-2
-add-flags-2 c = search needs
-
-spacing-bits-requires : tie.Need-spacing-bits-requires
-spacing-bits-requires c κs = search needs
-
-add-flags-3 : tie.Need-add-flags-3
-add-flags-3 c = search needs
-
 cast-action-of : tie.Need-cast-action-of
 cast-action-of c = search needs
+
+task-flags-requires : tie.Need-task-flags-requires
+task-flags-requires c κs = search needs
 
 start-time-requires : tie.Need-start-time-requires
 start-time-requires c κs = search needs
@@ -81,20 +63,8 @@ action-of-requires-6 c κs = search needs
 enum-known-a-4 : tie.Need-enum-known-a-4
 enum-known-a-4 c = search needs
 
-flag-bit-requires-3 : tie.Need-flag-bit-requires-3
-flag-bit-requires-3 c κs = search needs
-
-start-bit-requires-2 : tie.Need-start-bit-requires-2
-start-bit-requires-2 c κs = search needs
-
-add-flags-4 : tie.Need-add-flags-4
-add-flags-4 c = search needs
-
-spacing-bits-requires-2 : tie.Need-spacing-bits-requires-2
-spacing-bits-requires-2 c κs = search needs
-
-add-flags-5 : tie.Need-add-flags-5
-add-flags-5 c = search needs
+task-flags-requires-2 : tie.Need-task-flags-requires-2
+task-flags-requires-2 c κs = search needs
 
 start-time-requires-2 : tie.Need-start-time-requires-2
 start-time-requires-2 c κs = search needs
@@ -105,8 +75,8 @@ action-of-requires-7 c κs = search needs
 enum-known-a-5 : tie.Need-enum-known-a-5
 enum-known-a-5 c = search needs
 
-flag-bit-requires-4 : tie.Need-flag-bit-requires-4
-flag-bit-requires-4 c κs = search needs
+flag-bit-requires : tie.Need-flag-bit-requires
+flag-bit-requires c κs = search needs
 
 action-of-requires-8 : tie.Need-action-of-requires-8
 action-of-requires-8 c κs = search needs
@@ -137,15 +107,15 @@ returns-6 c = at-case (actionFields) (c .before .enum-told4 .given .1) (c .actio
 
 returns-7 : tie.Need-returns-7
 unfolding actionFields
-returns-7 c = at-case (actionFields) (c .before .before .before .before .before .before .before .a3 .given .1) (rw (c .before .start-time .ensures, c .before .before .spacing-bits .ensures .0, c .before .before .before .start-bit .ensures .0, c .before .before .before .before .flag-bit2 .ensures .0, c .before .before .before .before .before .flag-bit .ensures .0) at (c .action-of6 .ensures))
+returns-7 c = at-case (actionFields) (c .before .before .before .before .a3 .given .1) (rw (c .before .start-time .ensures, c .before .before .task-flags .ensures) at (c .action-of6 .ensures))
 
 returns-8 : tie.Need-returns-8
 unfolding actionFields
-returns-8 c = at-case (actionFields) (c .before .before .before .before .before .before .a4 .given .1) (rw (c .before .start-time2 .ensures, c .before .before .spacing-bits2 .ensures .0, c .before .before .before .start-bit2 .ensures .0, c .before .before .before .before .flag-bit3 .ensures .0) at (c .action-of7 .ensures))
+returns-8 c = at-case (actionFields) (c .before .before .before .before .a4 .given .1) (rw (c .before .start-time2 .ensures, c .before .before .task-flags2 .ensures) at (c .action-of7 .ensures))
 
 returns-9 : tie.Need-returns-9
 unfolding actionFields
-returns-9 c = at-case (actionFields) (c .before .before .before .a5 .given .1) (rw (c .before .flag-bit4 .ensures .0) at (c .action-of8 .ensures))
+returns-9 c = at-case (actionFields) (c .before .before .before .a5 .given .1) (rw (c .before .flag-bit .ensures .0) at (c .action-of8 .ensures))
 
 pub action-fields-spec : {M : Type 1} → statement M
 action-fields-spec =
@@ -165,26 +135,16 @@ action-fields-spec =
     enum-told-4
     action-of-requires-5
     enum-known-a-3
-    flag-bit-requires
-    flag-bit-requires-2
-    add-flags
-    start-bit-requires
-    add-flags-2
-    spacing-bits-requires
-    add-flags-3
     cast-action-of
+    task-flags-requires
     start-time-requires
     action-of-requires-6
     enum-known-a-4
-    flag-bit-requires-3
-    start-bit-requires-2
-    add-flags-4
-    spacing-bits-requires-2
-    add-flags-5
+    task-flags-requires-2
     start-time-requires-2
     action-of-requires-7
     enum-known-a-5
-    flag-bit-requires-4
+    flag-bit-requires
     action-of-requires-8
     returns
     returns-2

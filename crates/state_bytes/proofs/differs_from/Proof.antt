@@ -22,7 +22,7 @@ returns c = at-case (differsFrom _ _) (c .enum-told .given .1) refl
 
 returns-2 : tie.Need-returns-2
 unfolding differsFrom
-returns-2 c = at-case (differsFrom _ _) (c .before .before .h .given .1) (c .both .ensures)
+returns-2 c = let a = c .before .before .before .before .args in at-case (differsFrom (a .token) (a .buffer)) (c .before .before .h .given .1) (c .both .ensures)
 
 pub differs-from-spec : {M : Type 1} → statement M
 differs-from-spec = tie.close (tie.spec enum-told enum-known-h both-requires returns returns-2)

@@ -5,9 +5,6 @@ use Rattle.state_bytes.proofs.encode.Statement.{statement}
 use Rattle.state_bytes.proofs.encode.Tie as tie
 use Rattle.state_bytes.specs.Layout.{writtenState}
 
-flag-byte-requires : tie.Need-flag-byte-requires
-flag-byte-requires c κs = search needs
-
 wait-parts-requires : tie.Need-wait-parts-requires
 wait-parts-requires c κs = search needs
 
@@ -16,8 +13,8 @@ encode-parts-requires c κs = search needs
 
 returns : tie.Need-returns
 unfolding writtenState
-returns c = rw (c .before .wait-parts .ensures, c .before .before .flag-byte .ensures) at (c .encode-parts .ensures)
+returns c = rw (c .before .wait-parts .ensures) at (c .encode-parts .ensures)
 
 pub encode-spec : {M : Type 1} → statement M
 encode-spec =
-    tie.close (tie.spec flag-byte-requires wait-parts-requires encode-parts-requires returns)
+    tie.close (tie.spec wait-parts-requires encode-parts-requires returns)

@@ -5,6 +5,9 @@ use Rattle.state_bytes.proofs.encode_parts.Statement.{statement}
 use Rattle.state_bytes.proofs.encode_parts.Tie as tie
 use Rattle.state_bytes.proofs.Assembled.{assembled}
 
+flag-number-requires : tie.Need-flag-number-requires
+flag-number-requires c κs = search needs
+
 bytes-of-u64-requires : tie.Need-bytes-of-u64-requires
 bytes-of-u64-requires c κs = search needs
 
@@ -118,13 +121,14 @@ array-read-t103 c = search needs
 
 returns : tie.Need-returns
 returns c =
-    let a = c .before .before .before .before .before .before .before .args in
-    assembled (a .set) (a .implicit) (a .p) (c .before .before .before .before .before .before .bytes-of-u64 .ensures) (c .before .before .before .before .before .bytes-of-u16 .ensures) (c .before .before .before .before .bytes-of-u32 .ensures) (c .before .before .before .bytes-of-u162 .ensures) (c .before .before .bytes-of-u322 .ensures) (c .before .bytes-of-u163 .ensures) (c .bytes-of-u642 .ensures)
+    let a = c .before .before .before .before .before .before .before .before .args in
+    assembled (a .set) (a .p) (c .before .before .before .before .before .before .before .flag-number .ensures) (c .before .before .before .before .before .before .bytes-of-u64 .ensures) (c .before .before .before .before .before .bytes-of-u16 .ensures) (c .before .before .before .before .bytes-of-u32 .ensures) (c .before .before .before .bytes-of-u162 .ensures) (c .before .before .bytes-of-u322 .ensures) (c .before .bytes-of-u163 .ensures) (c .bytes-of-u642 .ensures)
 
 pub encode-parts-spec : {M : Type 1} → statement M
 encode-parts-spec =
     tie.close
     (tie.spec
+    flag-number-requires
     bytes-of-u64-requires
     bytes-of-u16-requires
     bytes-of-u32-requires

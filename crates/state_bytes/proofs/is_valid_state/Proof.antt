@@ -8,11 +8,14 @@ use Rattle.state_bytes.specs.Valid.{validState}
 pending-requests-requires : tie.Need-pending-requests-requires
 pending-requests-requires c κs = search needs
 
+cast-own-size : tie.Need-cast-own-size
+cast-own-size c = search needs
+
+mul-own-size : tie.Need-mul-own-size
+mul-own-size c = search needs
+
 cast-settings-refusal : tie.Need-cast-settings-refusal
 cast-settings-refusal c = search needs
-
-mul-settings-refusal : tie.Need-mul-settings-refusal
-mul-settings-refusal c = search needs
 
 settings-refusal-requires : tie.Need-settings-refusal-requires
 settings-refusal-requires c κs = search needs
@@ -44,8 +47,9 @@ is-valid-state-spec =
     tie.close
     (tie.spec
     pending-requests-requires
+    cast-own-size
+    mul-own-size
     cast-settings-refusal
-    mul-settings-refusal
     settings-refusal-requires
     slot-fits-requires
     slot-fits-requires-2

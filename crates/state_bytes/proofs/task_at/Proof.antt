@@ -11,9 +11,6 @@ u32-at-requires c κs = search needs
 add-byte-at : tie.Need-add-byte-at
 add-byte-at c = search needs
 
-cast-byte-at : tie.Need-cast-byte-at
-cast-byte-at c = search needs
-
 byte-at-requires : tie.Need-byte-at-requires
 byte-at-requires c κs = search needs
 
@@ -33,7 +30,6 @@ task-at-spec =
     (tie.spec
     u32-at-requires
     add-byte-at
-    cast-byte-at
     byte-at-requires
     add-u16-at
     u16-at-requires

@@ -3,7 +3,7 @@
 use borrow.Author.Needs.{needs}
 use Rattle.tasks.proofs.asked_slot.Statement.{statement}
 use Rattle.tasks.proofs.asked_slot.Tie as tie
-use Rattle.tasks.specs.Requests.{askedSlot}
+use Rattle.tasks.specs.Pending.{askedSlot}
 use Rattle.util.proofs.Tests.{at-case}
 use mathlib.Core.Path.{refl}
 

@@ -3,7 +3,7 @@
 use borrow.Author.Needs.{needs}
 use Rattle.tasks.proofs.left_slot.Statement.{statement}
 use Rattle.tasks.proofs.left_slot.Tie as tie
-use Rattle.tasks.specs.Requests.{leftSlot}
+use Rattle.tasks.specs.Pending.{leftSlot}
 use Rattle.util.proofs.Tests.{at-case}
 use mathlib.Core.Path.{refl}
 

@@ -3,7 +3,7 @@
 use borrow.Author.Needs.{needs}
 use Rattle.tasks.proofs.next_slot.Statement.{statement}
 use Rattle.tasks.proofs.next_slot.Tie as tie
-use Rattle.tasks.specs.Requests.{nextSlot}
+use Rattle.tasks.specs.Pending.{nextSlot}
 use Rattle.util.proofs.Tests.{at-case}
 use mathlib.Core.Path.{refl}
 

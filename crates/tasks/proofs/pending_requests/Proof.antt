@@ -3,7 +3,7 @@
 use borrow.Author.Needs.{needs}
 use Rattle.tasks.proofs.pending_requests.Statement.{statement}
 use Rattle.tasks.proofs.pending_requests.Tie as tie
-use Rattle.tasks.specs.Requests.{pendingOf}
+use Rattle.tasks.specs.Pending.{pendingOf}
 use Rattle.util.proofs.Tests.{at-case}
 use mathlib.Core.Path.{refl}
 

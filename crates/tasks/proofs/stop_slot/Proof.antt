@@ -3,7 +3,7 @@
 use borrow.Author.Needs.{needs}
 use Rattle.tasks.proofs.stop_slot.Statement.{statement}
 use Rattle.tasks.proofs.stop_slot.Tie as tie
-use Rattle.tasks.specs.Requests.{stopSlot}
+use Rattle.tasks.specs.Pending.{stopSlot}
 use Rattle.util.proofs.Tests.{at-case}
 use mathlib.Core.Path.{refl}
 

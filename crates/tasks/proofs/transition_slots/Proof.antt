@@ -3,7 +3,7 @@
 use borrow.Author.Needs.{needs}
 use Rattle.tasks.proofs.transition_slots.Statement.{statement}
 use Rattle.tasks.proofs.transition_slots.Tie as tie
-use Rattle.tasks.specs.Requests.{transitionSlots}
+use Rattle.tasks.specs.Pending.{transitionSlots}
 use Rattle.util.proofs.Tests.{at-case}
 use mathlib.Core.Path.{refl}
 

@@ -1,0 +1,6 @@
+pub mod Order
+pub mod One
+pub mod Laws
+pub mod Ranges
+pub mod Apart
+pub mod History

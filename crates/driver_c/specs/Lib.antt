@@ -1,4 +1,0 @@
-pub mod Codes
-pub mod Calls
-pub mod Lists
-pub mod Start

@@ -1,0 +1,11 @@
+pub mod Count
+pub mod Standing
+pub mod Right
+pub mod Radio
+pub mod Kept
+pub mod Table
+pub mod Refusals
+pub mod Reasons
+pub mod Actions
+pub mod Sound
+pub mod History

@@ -1,0 +1,9 @@
+pub mod Step
+pub mod Refusals
+pub mod Book
+pub mod Answered
+pub mod BookClaims
+pub mod Reasons
+pub mod Agreement
+pub mod Actions
+pub mod Lists

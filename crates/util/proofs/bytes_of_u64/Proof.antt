@@ -1,0 +1,37 @@
+-- `util::bytes_of_u64` meets its contract: its bytes are the definition's, one by one.
+-- Assumes nothing.
+use mathlib.Core.Path.{refl}
+use borrow.Author.Needs.{needs}
+use Rattle.util.proofs.bytes_of_u64.Statement.{statement}
+use Rattle.util.proofs.bytes_of_u64.Tie as tie
+
+cast-b0 : tie.Need-cast-b0
+cast-b0 c = search needs
+
+cast-b1 : tie.Need-cast-b1
+cast-b1 c = search needs
+
+cast-b2 : tie.Need-cast-b2
+cast-b2 c = search needs
+
+cast-b3 : tie.Need-cast-b3
+cast-b3 c = search needs
+
+cast-b4 : tie.Need-cast-b4
+cast-b4 c = search needs
+
+cast-b5 : tie.Need-cast-b5
+cast-b5 c = search needs
+
+cast-b6 : tie.Need-cast-b6
+cast-b6 c = search needs
+
+cast-b7 : tie.Need-cast-b7
+cast-b7 c = search needs
+
+returns : tie.Need-returns
+returns c = refl
+
+pub bytes-of-u64-spec : {M : Type 1} → statement M
+bytes-of-u64-spec =
+    tie.close (tie.spec cast-b0 cast-b1 cast-b2 cast-b3 cast-b4 cast-b5 cast-b6 cast-b7 returns)

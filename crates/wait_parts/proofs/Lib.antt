@@ -1,0 +1,3 @@
+pub mod Tables
+pub mod Picked
+pub mod RoundTrip

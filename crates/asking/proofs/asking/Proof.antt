@@ -4,13 +4,14 @@ use Prim.Native.Nat.{ℕ}
 use mathlib.Core.Path.{_≡_, refl, _∙_}
 use mathlib.Core.List.{List, [], _∷_}
 use borrow.Author.Needs.{needs}
-use types.Run.{OneOf, miss}
+use types.Run.{OneOf}
 use denote.Enum.Declared.{tagOf}
 use Rattle.tasks.proofs.Call as call
 use Rattle.tasks.specs.declared.Asked.{Asked}
 use Rattle.tasks.specs.declared.Call.{Call}
 use Rattle.tasks.specs.declared.State.{State}
 use Rattle.moves.specs.Move.{unfit}
+use Rattle.moves.proofs.Rest.{rest}
 use Rattle.asking.proofs.asking.Statement.{statement}
 use Rattle.asking.proofs.asking.Tie as tie
 use Rattle.util.proofs.Tests.{at-case}
@@ -20,17 +21,9 @@ use Rattle.asking.specs.Asking.{askingOf}
 abbrev others : List ℕ
 others = 2 ∷ 3 ∷ 4 ∷ 5 ∷ 6 ∷ 7 ∷ 8 ∷ []
 
-rest : (s : State) (pool : List ℕ) (a : Asked) (c : Call) → OneOf others (tagOf call.the-type c) → unfit s ≡ askingOf s pool a c
+unfit-rest : (s : State) (pool : List ℕ) (a : Asked) (c : Call) → OneOf others (tagOf call.the-type c) → unfit s ≡ askingOf s pool a c
 unfolding askingOf
-rest s pool a (Call.Request q) h = absurd (miss others 0 tt h)
-rest s pool a Call.None h = absurd (miss others 1 tt h)
-rest s pool a Call.FrameStart h = refl
-rest s pool a (Call.OutboundSeen start cca) h = refl
-rest s pool a (Call.Stopped r) h = refl
-rest s pool a (Call.Header arrived length) h = refl
-rest s pool a (Call.Entered r entry) h = refl
-rest s pool a (Call.Fallback r cause) h = refl
-rest s pool a Call.Rollback h = refl
+unfit-rest s pool a = rest others s (askingOf s pool a) (tt, tt, refl, λ start cca. refl, λ r. refl, λ arrived length. refl, λ r entry. refl, λ r cause. refl, refl)
 
 enum-known-c : tie.Need-enum-known-c
 enum-known-c c = search needs
@@ -56,7 +49,7 @@ unfolding askingOf
 returns-2 c = at-case (askingOf _ _ _) (c .before .enum-told .given .1) (c .none .ensures)
 
 returns-3 : tie.Need-returns-3
-returns-3 c = c .refused .ensures ∙ rest _ _ _ _ (c .before .match .keys3)
+returns-3 c = c .refused .ensures ∙ unfit-rest _ _ _ _ (c .before .match .keys3)
 
 pub asking-spec : {M : Type 1} → statement M
 asking-spec =

@@ -4,13 +4,14 @@ use Prim.Native.Nat.{ℕ}
 use mathlib.Core.Path.{_≡_, refl, _∙_}
 use mathlib.Core.List.{List, [], _∷_}
 use borrow.Author.Needs.{needs}
-use types.Run.{OneOf, miss}
+use types.Run.{OneOf}
 use denote.Enum.Declared.{tagOf}
 use Rattle.tasks.proofs.Call as call
 use Rattle.tasks.specs.declared.Call.{Call}
 use Rattle.tasks.specs.declared.State.{State}
 use Rattle.tasks.specs.declared.Transition.{Transition}
 use Rattle.moves.specs.Move.{unfit}
+use Rattle.moves.proofs.Rest.{rest}
 use Rattle.util.proofs.Tests.{at-case}
 use Rattle.entering.proofs.entering.Statement.{statement}
 use Rattle.entering.proofs.entering.Tie as tie
@@ -20,17 +21,9 @@ use Rattle.entering.specs.Entering.{enteringOf}
 abbrev others : List ℕ
 others = 0 ∷ 1 ∷ 2 ∷ 3 ∷ 4 ∷ 5 ∷ []
 
-rest : (s : State) (pool : List ℕ) (e : Transition) (c : Call) → OneOf others (tagOf call.the-type c) → unfit s ≡ enteringOf s pool e c
+unfit-rest : (s : State) (pool : List ℕ) (e : Transition) (c : Call) → OneOf others (tagOf call.the-type c) → unfit s ≡ enteringOf s pool e c
 unfolding enteringOf
-rest s pool e (Call.Request r) h = refl
-rest s pool e Call.None h = refl
-rest s pool e Call.FrameStart h = refl
-rest s pool e (Call.OutboundSeen start cca) h = refl
-rest s pool e (Call.Stopped r) h = refl
-rest s pool e (Call.Header arrived length) h = refl
-rest s pool e (Call.Entered r entry) h = absurd (miss others 6 tt h)
-rest s pool e (Call.Fallback r cause) h = absurd (miss others 7 tt h)
-rest s pool e Call.Rollback h = absurd (miss others 8 tt h)
+unfit-rest s pool e = rest others s (enteringOf s pool e) (λ q. refl, refl, refl, λ start cca. refl, λ r. refl, λ arrived length. refl, tt, tt, tt)
 
 enum-known-c : tie.Need-enum-known-c
 enum-known-c c = search needs
@@ -66,7 +59,7 @@ unfolding enteringOf
 returns-3 c = at-case (enteringOf _ _ _) (c .before .enum-told .given .1) (c .rolled-back .ensures)
 
 returns-4 : tie.Need-returns-4
-returns-4 c = c .refused .ensures ∙ rest _ _ _ _ (c .before .match .keys4)
+returns-4 c = c .refused .ensures ∙ unfit-rest _ _ _ _ (c .before .match .keys4)
 
 pub entering-spec : {M : Type 1} → statement M
 entering-spec =

@@ -4,13 +4,14 @@ use Prim.Native.Nat.{ℕ}
 use mathlib.Core.Path.{_≡_, refl, _∙_}
 use mathlib.Core.List.{List, [], _∷_}
 use borrow.Author.Needs.{needs}
-use types.Run.{OneOf, miss}
+use types.Run.{OneOf}
 use denote.Enum.Declared.{tagOf}
 use Rattle.tasks.proofs.Call as call
 use Rattle.tasks.specs.declared.Call.{Call}
 use Rattle.tasks.specs.declared.RxTask.{RxTask}
 use Rattle.tasks.specs.declared.State.{State}
 use Rattle.moves.specs.Move.{unfit}
+use Rattle.moves.proofs.Rest.{rest}
 use Rattle.util.proofs.Tests.{at-case}
 use Rattle.listening.proofs.listening.Statement.{statement}
 use Rattle.listening.proofs.listening.Tie as tie
@@ -20,17 +21,9 @@ use Rattle.listening.specs.Listening.{listeningOf}
 abbrev others : List ℕ
 others = 0 ∷ 1 ∷ 4 ∷ 5 ∷ 6 ∷ 7 ∷ 8 ∷ []
 
-rest : (s : State) (q : RxTask) (c : Call) → OneOf others (tagOf call.the-type c) → unfit s ≡ listeningOf s q c
+unfit-rest : (s : State) (q : RxTask) (c : Call) → OneOf others (tagOf call.the-type c) → unfit s ≡ listeningOf s q c
 unfolding listeningOf
-rest s q (Call.Request r) h = refl
-rest s q Call.None h = refl
-rest s q Call.FrameStart h = absurd (miss others 2 tt h)
-rest s q (Call.OutboundSeen start cca) h = absurd (miss others 3 tt h)
-rest s q (Call.Stopped r) h = refl
-rest s q (Call.Header arrived length) h = refl
-rest s q (Call.Entered r entry) h = refl
-rest s q (Call.Fallback r cause) h = refl
-rest s q Call.Rollback h = refl
+unfit-rest s q = rest others s (listeningOf s q) (λ q. refl, refl, tt, tt, λ r. refl, λ arrived length. refl, λ r entry. refl, λ r cause. refl, refl)
 
 enum-told : tie.Need-enum-told
 enum-told c = search needs
@@ -63,7 +56,7 @@ returns-2 c =
     (rw (c .before .stop-before .ensures) at (c .stop2 .ensures))
 
 returns-3 : tie.Need-returns-3
-returns-3 c = c .refused .ensures ∙ rest _ _ _ (c .before .match .keys3)
+returns-3 c = c .refused .ensures ∙ unfit-rest _ _ _ (c .before .match .keys3)
 
 pub listening-spec : {M : Type 1} → statement M
 listening-spec =

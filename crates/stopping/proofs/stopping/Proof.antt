@@ -4,13 +4,14 @@ use Prim.Native.Nat.{ℕ}
 use mathlib.Core.Path.{_≡_, refl, _∙_}
 use mathlib.Core.List.{List, [], _∷_}
 use borrow.Author.Needs.{needs}
-use types.Run.{OneOf, miss}
+use types.Run.{OneOf}
 use denote.Enum.Declared.{tagOf}
 use Rattle.tasks.proofs.Call as call
 use Rattle.tasks.specs.declared.Call.{Call}
 use Rattle.tasks.specs.declared.State.{State}
 use Rattle.tasks.specs.declared.Stop.{Stop}
 use Rattle.moves.specs.Move.{unfit}
+use Rattle.moves.proofs.Rest.{rest}
 use Rattle.util.proofs.Tests.{at-case}
 use Rattle.stopping.proofs.stopping.Statement.{statement}
 use Rattle.stopping.proofs.stopping.Tie as tie
@@ -20,17 +21,9 @@ use Rattle.stopping.specs.Stopping.{stoppingOf}
 abbrev others : List ℕ
 others = 0 ∷ 1 ∷ 2 ∷ 3 ∷ 5 ∷ 6 ∷ 7 ∷ 8 ∷ []
 
-rest : (s : State) (p : Stop) (c : Call) → OneOf others (tagOf call.the-type c) → unfit s ≡ stoppingOf s p c
+unfit-rest : (s : State) (p : Stop) (c : Call) → OneOf others (tagOf call.the-type c) → unfit s ≡ stoppingOf s p c
 unfolding stoppingOf
-rest s p (Call.Request r) h = refl
-rest s p Call.None h = refl
-rest s p Call.FrameStart h = refl
-rest s p (Call.OutboundSeen start cca) h = refl
-rest s p (Call.Stopped r) h = absurd (miss others 4 tt h)
-rest s p (Call.Header arrived length) h = refl
-rest s p (Call.Entered r entry) h = refl
-rest s p (Call.Fallback r cause) h = refl
-rest s p Call.Rollback h = refl
+unfit-rest s p = rest others s (stoppingOf s p) (λ q. refl, refl, refl, λ start cca. refl, tt, λ arrived length. refl, λ r entry. refl, λ r cause. refl, refl)
 
 enum-known-c : tie.Need-enum-known-c
 enum-known-c c = search needs
@@ -46,7 +39,7 @@ unfolding stoppingOf
 returns c = at-case (stoppingOf _ _) (c .before .before .c .given .1) (c .stopped .ensures)
 
 returns-2 : tie.Need-returns-2
-returns-2 c = c .refused .ensures ∙ rest _ _ _ (c .before .match .keys2)
+returns-2 c = c .refused .ensures ∙ unfit-rest _ _ _ (c .before .match .keys2)
 
 pub stopping-spec : {M : Type 1} → statement M
 stopping-spec =

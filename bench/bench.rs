@@ -16,6 +16,7 @@ const PAN: u16 = 0x4321;
 const HEADERS: usize = 4096;
 const ROUNDS: usize = 200;
 const REPEATS: usize = 31;
+const COUNTED_ROUNDS: usize = 5;
 
 struct Random(u64);
 
@@ -99,8 +100,21 @@ fn least(times: Vec<f64>) -> f64 {
     times.into_iter().fold(f64::INFINITY, f64::min)
 }
 
+/// Each side's rounds once, for a counter of instructions, which `bench/run` sets upon `run_ours` and `run_rust`.
+fn count(headers: &[Vec<u8>]) {
+    for _ in 0..COUNTED_ROUNDS {
+        let ours = run_ours(black_box(headers), black_box(HARDWARE), black_box(PAN));
+        let rust = run_rust(black_box(headers), black_box(&HARDWARE.to_be_bytes()));
+        assert_eq!(ours, rust, "the two disagree");
+    }
+    println!("{}", COUNTED_ROUNDS * HEADERS);
+}
+
 fn main() {
     let headers = headers();
+    if std::env::args().any(|argument| argument == "--count") {
+        return count(&headers);
+    }
     let (mut ours, mut rust) = (vec![], vec![]);
     let mut for_us = 0;
     // The two take turns, so that both see the same machine.

@@ -2,13 +2,15 @@
 -- Assumes nothing.
 use Prim.Native.Nat.{_≤_}
 use mathlib.Core.Bool.{Bool, true, false, cond}
-use mathlib.Core.Path.{_≡_, refl}
+use mathlib.Core.Path.{_≡_, refl, sym, _∙_, ap}
 use native.Mathlib.Omega.{arith}
 use lib.Dec.{ltb}
 use Rattle.frame_control.specs.declared.AddressingMode.{AddressingMode}
 use Rattle.frame_control.specs.declared.AddressingMode.the-variants.{Absent, Unknown, Short, Extended}
 use Rattle.frame_control.proofs.Laws.{and-first}
-use Rattle.addressing.specs.Addressing.{addressLength, panIdLength, legacyPanIds, currentPanIds, panIdsOf, lengthsOf, LengthsBounded, SourcePanNeedsSource}
+use Rattle.addressing.specs.declared.PanIdsPresent.{PanIdsPresent}
+use Rattle.addressing.proofs.PanIdCompression.{keeps-reading}
+use Rattle.addressing.specs.Addressing.{addressLength, panIdLength, legacyPanIds, currentSentences, lengthsOf, LengthsBounded, SourcePanNeedsSource}
 
 pan-bounded : (stands : Bool) → panIdLength stands ≤ 2
 unfolding panIdLength
@@ -32,19 +34,18 @@ lengths-bounded fc =
       src-address = address-bounded _;
     }
 
-current-source : (dst src both compression : Bool) → currentPanIds dst src both compression .src ≡ true → src ≡ true
-unfolding currentPanIds
-current-source false false both compression e = e
-current-source true false both compression e = e
-current-source false true both compression e = refl
-current-source true true true compression e = refl
-current-source true true false compression e = refl
+sentence-source : (dst src both compression : Bool) → currentSentences dst src both compression .src ≡ true → src ≡ true
+unfolding currentSentences
+sentence-source false false both compression e = e
+sentence-source true false both compression e = e
+sentence-source false true both compression e = refl
+sentence-source true true true compression e = refl
+sentence-source true true false compression e = refl
 
-either-source : (legacy dst src both compression : Bool) → cond legacy (legacyPanIds dst src compression) (currentPanIds dst src both compression) .src ≡ true → src ≡ true
+either-source : (legacy dst src both compression : Bool) → cond legacy (legacyPanIds dst src compression) (currentSentences dst src both compression) .src ≡ true → src ≡ true
 unfolding legacyPanIds
 either-source true dst src both compression e = and-first _ _ e
-either-source false dst src both compression e = current-source dst src both compression e
+either-source false dst src both compression e = sentence-source dst src both compression e
 
 pub source-pan-needs-source : SourcePanNeedsSource
-unfolding panIdsOf
-source-pan-needs-source fc e = either-source (ltb (fc .«frame_version») 2) _ _ _ _ e
+source-pan-needs-source fc e = either-source (ltb (fc .«frame_version») 2) _ _ _ _ (sym (ap (λ (p : PanIdsPresent). p .src) (keeps-reading fc)) ∙ e)

@@ -22,16 +22,7 @@ unfolding panIdsOf
 returns c =
     let version = c .before .before .before .before .before .args .fc .«frame_version» in
     let old : version < 2 = omega arith in
-    rw (lt-ltb version 2 old) (rw (c .before .before .before .before .is-present .ensures, c .before .before .before .is-present2 .ensures) at (c .legacy-pan-ids .ensures))
-
-is-extended-requires : tie.Need-is-extended-requires
-is-extended-requires c κs = search needs
-
-is-extended-requires-2 : tie.Need-is-extended-requires-2
-is-extended-requires-2 c κs = search needs
-
-both-requires : tie.Need-both-requires
-both-requires c κs = search needs
+    rw (lt-ltb version 2 old) (rw (c .before .before .is-present .ensures, c .before .is-present2 .ensures) at (c .legacy-pan-ids .ensures))
 
 current-pan-ids-requires : tie.Need-current-pan-ids-requires
 current-pan-ids-requires c κs = search needs
@@ -39,20 +30,11 @@ current-pan-ids-requires c κs = search needs
 returns-2 : tie.Need-returns-2
 unfolding panIdsOf
 returns-2 c =
-    let version = c .before .before .before .before .before .before .before .before .args .fc .«frame_version» in
+    let version = c .before .before .before .args .fc .«frame_version» in
     let new : 2 ≤ version = omega arith in
-    rw (le-ltb version 2 new) (rw (c .before .before .before .before .before .before .before .is-present .ensures, c .before .before .before .before .before .before .is-present2 .ensures, c .before .both .ensures, c .before .before .before .is-extended .ensures, c .before .before .is-extended2 .ensures) at (c .current-pan-ids .ensures))
+    rw (le-ltb version 2 new) (c .current-pan-ids .ensures)
 
 pub pan-ids-present-spec : {M : Type 1} → statement M
 pan-ids-present-spec =
     tie.close
-    (tie.spec
-    is-present-requires
-    is-present-requires-2
-    legacy-pan-ids-requires
-    returns
-    is-extended-requires
-    is-extended-requires-2
-    both-requires
-    current-pan-ids-requires
-    returns-2)
+    (tie.spec is-present-requires is-present-requires-2 legacy-pan-ids-requires returns current-pan-ids-requires returns-2)

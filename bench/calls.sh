@@ -3,15 +3,17 @@
 # RUST_SRC and ORACLE are as for tests/32-engine-oracle.sh; with both at hand the Rust service is counted too.
 set -euo pipefail
 cd "$(dirname "${BASH_SOURCE[0]}")/.."
-library=${WIDOSHA_LIB_DIR:-target/staticlib}/libdriver_c.a
+folder=${WIDOSHA_LIB_DIR:-target/staticlib}
 rust=${RUST_SRC:-../shared/docs/src}
 oracle=${ORACLE:-../shared/oracle}
 out=target/bench/calls
 rounds=200
-if ! [ -f "$library" ]; then
-    echo "there is no $library; rt staticlib driver_c builds it"
-    exit 1
-fi
+for each in driver_c frame_c; do
+    if ! [ -f "$folder/lib$each.a" ]; then
+        echo "there is no $folder/lib$each.a; rt staticlib $each builds it"
+        exit 1
+    fi
+done
 mkdir -p "$out"
 CARGO_TARGET_DIR=$PWD/target/host cargo build --quiet --manifest-path host/Cargo.toml --offline --release --example bench_calls
 bench=target/host/release/examples/bench_calls
@@ -32,10 +34,14 @@ if ! command -v valgrind >/dev/null || ! command -v callgrind_annotate >/dev/nul
 fi
 echo "== instructions, by callgrind, of $rounds rounds"
 inside count
+echo "== instructions of the header reader, over five frames, $rounds times"
+inside facts
 
 echo "== stack: an upper bound for all inputs, added up from the library's machine code (bench/stack.py)"
 if command -v objdump >/dev/null && [ "$(uname -m)" = x86_64 ]; then
-    python3 -B bench/stack.py "$library" || echo "the stack was not bounded"
+    for each in driver_c frame_c; do
+        python3 -B bench/stack.py "$folder/lib$each.a" || echo "the stack was not bounded"
+    done
 else
     echo "not measured: it needs objdump and x86-64"
 fi

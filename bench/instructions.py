@@ -36,14 +36,14 @@ def calls(counts, inclusive):
     if sum(cost.values()) != total(inclusive):
         sys.exit("the functions' instructions (%d) are not all that was counted (%d)" % (sum(cost.values()), total(inclusive)))
     made, spent = 0, 0
-    print("%-24s %9s %9s %22s" % ("function", "accepted", "refused", "instructions per call"))
+    print("%-30s %9s %9s %22s" % ("function", "accepted", "refused", "instructions per call"))
     for line in open(counts, encoding="utf-8").read().splitlines()[1:]:
         function, accepted, refused = line.split()
         number = int(accepted) + int(refused)
         if number:
             made, spent = made + number, spent + cost[function]
-            print("%-24s %9s %9s %22.1f" % (function, accepted, refused, cost[function] / number))
-    print("%-24s %19d %22.1f" % ("all", made, spent / made))
+            print("%-30s %9s %9s %22.1f" % (function, accepted, refused, cost[function] / number))
+    print("%-30s %19d %22.1f" % ("all", made, spent / made))
 
 
 def rust(number, exclusive):

@@ -110,10 +110,10 @@ def main(library):
         worst = {name: 8 + bound(functions, name) for name in exported}
     except ValueError as what:
         sys.exit("no bound: %s" % what)
-    print("%-24s %22s" % ("function", "bytes of stack at most"))
+    print("%-30s %22s" % ("function", "bytes of stack at most"))
     for name in exported:
-        print("%-24s %22d" % (name, worst[name]))
-    print("%-24s %22d" % ("largest", max(worst.values())))
+        print("%-30s %22d" % (name, worst[name]))
+    print("%-30s %22d" % ("largest", max(worst.values())))
 
 
 main(sys.argv[1])

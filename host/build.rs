@@ -1,5 +1,5 @@
-//! Links the proved static library. It is looked for in the folder that WIDOSHA_LIB_DIR names by its full path, else in
-//! ../target/staticlib, where `rt staticlib driver_c` puts it.
+//! Links the two proved static libraries: the driver service, and what can be told of a frame alone. They are looked for in the folder
+//! that WIDOSHA_LIB_DIR names by its full path, else in ../target/staticlib, where `rt staticlib` puts them.
 use std::env;
 use std::path::PathBuf;
 
@@ -11,7 +11,9 @@ fn main() {
     };
     println!("cargo:rerun-if-changed=build.rs");
     println!("cargo:rerun-if-env-changed=WIDOSHA_LIB_DIR");
-    println!("cargo:rerun-if-changed={}", folder.join("libdriver_c.a").display());
     println!("cargo:rustc-link-search=native={}", folder.display());
-    println!("cargo:rustc-link-lib=static=driver_c");
+    for library in ["driver_c", "frame_c"] {
+        println!("cargo:rerun-if-changed={}", folder.join(format!("lib{library}.a")).display());
+        println!("cargo:rustc-link-lib=static={library}");
+    }
 }

@@ -1,12 +1,12 @@
-/* The driver service of IEEE 802.15.4 as C functions on numbers and byte slices.
+/* The driver service of IEEE 802.15.4 and its header reader as C functions on numbers and byte slices.
  *
- * docs/LAYOUTS.md gives every code and both layouts byte by byte. A slice is a pointer and its length in bytes; the three slices of
- * a call are the state, the reply and the pool. Each pointer must be good for reading and writing as many bytes as its length says,
- * and the slices must not overlap. Each function returns 0 or the number of the refusal, and a refusal leaves all three slices as
- * they were.
+ * docs/LAYOUTS.md gives every code and all layouts byte by byte. A slice is a pointer and its length in bytes. The three slices of
+ * start and of a call are the state, the reply and the pool; the two of the header reader are the frame, which is only read, and
+ * the facts. Each pointer must be good for reading and writing as many bytes as its length says (the frame's for reading), and the
+ * slices must not overlap. Each function returns 0 or the number of the refusal, and a refusal leaves all slices as they were.
  *
- * A null pointer with length 0 may be passed for any slice. It is a slice of length 0, and so the call is refused: 1 for the state
- * or the reply, 2 for the pool.
+ * A null pointer with length 0 may be passed for any slice. It is a slice of length 0, and so the call is refused: 1 for the state,
+ * the reply or the facts, 2 for the pool. For the frame it is no refusal: no byte has arrived, and no fact is there.
  *
  * tests/40-header.sh compares these declarations with the source. */
 #ifndef WIDOSHA_H
@@ -18,6 +18,7 @@
 #define WIDOSHA_STATE_LENGTH 64
 #define WIDOSHA_REPLY_LENGTH 48
 #define WIDOSHA_BUFFER_LENGTH 144
+#define WIDOSHA_INFO_LENGTH 32
 
 #ifdef __cplusplus
 extern "C" {
@@ -62,6 +63,9 @@ uint8_t widosha_fallback(
 
 uint8_t widosha_rollback(
     uint8_t *state, size_t state_len, uint8_t *reply, size_t reply_len, uint8_t *pool, size_t pool_len);
+
+uint8_t widosha_preliminary_frame_info(
+    const uint8_t *frame, size_t frame_len, uint8_t *info, size_t info_len);
 
 #ifdef __cplusplus
 }

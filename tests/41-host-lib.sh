@@ -24,9 +24,9 @@ if command -v nm >/dev/null; then
     compile() {
         "${RUSTC:-rustc}" --edition 2021 -C opt-level=3 -C panic=abort --out-dir "$out" -L "$out" -L native="$folder" "$@"
     }
-    compile --crate-name widosha --crate-type rlib host/src/lib.rs -l static=driver_c
+    compile --crate-name widosha --crate-type rlib host/src/lib.rs -l static=driver_c -l static=frame_c
     compile --crate-type staticlib -C lto=fat -C codegen-units=1 host/checks/no_panic.rs --extern widosha="$out/libwidosha.rlib"
-    for each in start step bytes end; do
+    for each in start step bytes facts end; do
         if ! nm "$out/libno_panic.a" 2>/dev/null | grep -q " T $each\$"; then
             echo "the check for panics has no function $each"
             exit 1

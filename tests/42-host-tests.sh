@@ -8,11 +8,13 @@ if ! command -v cargo >/dev/null 2>&1; then
     echo "42-host-tests: not run, there is no cargo"
     exit 77
 fi
-library="${WIDOSHA_LIB_DIR:-target/staticlib}/libdriver_c.a"
-if [ ! -f "$library" ]; then
-    echo "42-host-tests: failed, there is no $library"
-    exit 1
-fi
+for each in driver_c frame_c; do
+    library="${WIDOSHA_LIB_DIR:-target/staticlib}/lib$each.a"
+    if [ ! -f "$library" ]; then
+        echo "42-host-tests: failed, there is no $library"
+        exit 1
+    fi
+done
 
 # All rounds, with the coverage that they are to reach.
 unset WIDOSHA_ROUNDS_DIVISOR
@@ -25,7 +27,7 @@ status=$?
 if [ "$status" -ne 0 ]; then
     cat "$log"
 else
-    grep -E '^(random|boundaries|slices|damaged):|^  (accepted|refused)' "$log"
+    grep -E '^(random|boundaries|slices|damaged|facts):|^  (accepted|refused)' "$log"
 fi
 awk '/^test result: / { passed += $4; failed += $6 }
      END { printf "42-host-tests: %d tests passed, %d failed\n", passed, failed }' "$log"
@@ -34,7 +36,7 @@ if [ "$status" -ne 0 ]; then
     exit 1
 fi
 # A suite that ran nothing has not passed.
-for test in random boundaries slices damaged; do
+for test in random boundaries slices damaged facts; do
     if ! grep -q "^$test: [0-9a-z]" "$log"; then
         echo "42-host-tests: failed, $test printed no counts"
         exit 1

@@ -58,6 +58,14 @@ pub extern "C" fn bytes(service: &mut DriverService<4>, buffer: u8, frame: &mut 
 }
 
 #[no_mangle]
+pub extern "C" fn facts(service: &DriverService<4>, answer: &Answer, info: &mut PreliminaryFrameInfo) -> usize {
+    let Some(received) = service.received(answer) else { return 0 };
+    *info = PreliminaryFrameInfo::of(received.frame);
+    let after = Received { info: *info, ..received }.after_addressing();
+    after.map_or(1, <[u8]>::len) + usize::from(received.info == *info)
+}
+
+#[no_mangle]
 pub extern "C" fn end(service: &mut Option<DriverService<4>>, buffer: u8) -> u8 {
     let mut pool = service.take().map_or_else(Pool::<4>::new, DriverService::into_pool);
     let row = pool.buffer_mut(buffer).map_or(0, |row| row[0]);

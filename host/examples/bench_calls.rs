@@ -1,10 +1,11 @@
-//! A mixed run over all exported functions: whole transmissions with and without ACK, receptions with an ACK turn, frames for others,
-//! windows that end, errors, and refusals. Every returned number is compared with the expected one.
+//! A mixed run over start and the nine calls: whole transmissions with and without ACK, receptions with an ACK turn, frames for
+//! others, windows that end, errors, and refusals. Every returned number is compared with the expected one.
 //!
 //!     bench_calls              prints calls and nanoseconds per call (fastest of 31 runs of 400 rounds)
 //!     bench_calls --count N    makes exactly N rounds and prints how often each function was called, for an instruction counter
 //!     bench_calls --accepted N the same with one start and, N times, the accepted calls of a round
 //!     bench_calls --script N   prints those in the language of the script runner of the Rust service
+//!     bench_calls --facts N    reads the facts of five frames N times, and once each time into a slice of a wrong length
 
 use std::fmt::Write;
 use std::time::Instant;
@@ -371,6 +372,32 @@ fn accepted(steps: &[Step]) -> (Vec<Step>, Vec<Step>) {
     accepted.partition(|step| matches!(step.numbers, Numbers::Start(..)))
 }
 
+/// Frames whose facts are read: a weighing, the same cut off inside its source, two extended addresses with a PAN each, two of
+/// version 2 with none, and a control that is not well formed.
+const FRAMES: [&[u8]; 5] = [
+    &[0x61, 0x88, 7, 0x34, 0x12, 0x00, 0x00, 0x01, 0x00, 0xc0, 0x5d, 0x00],
+    &[0x61, 0x88, 7, 0x34, 0x12, 0x00, 0x00, 0x01],
+    &[
+        0x01, 0xdc, 7, 0x34, 0x12, 1, 2, 3, 4, 5, 6, 7, 8, 0x78, 0x56, 9, 10, 11, 12, 13, 14, 15, 16, 0xee,
+    ],
+    &[0x41, 0xec, 7, 1, 2, 3, 4, 5, 6, 7, 8, 9, 10, 11, 12, 13, 14, 15, 16, 0xee],
+    &[0x01, 0x04, 7, 0x34, 0x12],
+];
+
+fn facts(rounds: u32) {
+    let mut info = [0; INFO_LENGTH];
+    let mut read = |frame: &[u8], length: usize| {
+        // SAFETY: two slices that do not overlap; the length is that of `info` or less.
+        unsafe { widosha_preliminary_frame_info(frame.as_ptr(), frame.len(), info.as_mut_ptr(), length) }
+    };
+    for _ in 0..rounds {
+        assert!(FRAMES.iter().all(|frame| read(frame, INFO_LENGTH) == 0), "32 bytes are taken");
+        assert_eq!(read(FRAMES[0], INFO_LENGTH - 1), 1, "31 bytes are refused");
+    }
+    println!("function accepted refused");
+    println!("widosha_preliminary_frame_info {} {rounds}", FRAMES.len() as u32 * rounds);
+}
+
 fn time(memory: &mut Memory, steps: &[Step]) {
     check(memory, steps);
     let once = || {
@@ -410,7 +437,8 @@ fn main() {
             let rest = std::iter::repeat_n(&rest, rounds as usize).flatten();
             start.iter().chain(rest).for_each(|step| println!("{}", script(step)));
         }
+        (Some("--facts"), Some(rounds)) => facts(rounds),
         (None, None) => time(&mut memory, &steps),
-        _ => panic!("bench_calls [--count N | --accepted N | --script N]"),
+        _ => panic!("bench_calls [--count N | --accepted N | --script N | --facts N]"),
     }
 }

@@ -1,8 +1,9 @@
 //! Two cranes within hearing of each other. Load cells send weighings to the hub of their crane over a simulated air; each station is
 //! the proved driver service, called through its C functions, with a simulated radio that obeys it.
 //!
-//! From the second scene on crane A's frame is lost, and an acknowledgement of crane B arrives where cell A waits for its own. The
-//! program checks what it tells: it ends with an error if an answer or a mass is not the expected one.
+//! From the second scene on crane A's frame is lost, and an acknowledgement of crane B arrives where cell A waits for its own. A
+//! hub knows no cell: it names the one that weighed a box as the header of the received frame does. The program checks what it
+//! tells: it ends with an error if an answer, a mass or a cell is not the expected one.
 
 #[path = "two_cranes/air.rs"]
 mod air;
@@ -14,7 +15,7 @@ mod words;
 mod world;
 
 use air::Who::{self, CellA, CellB, HandsetB, HubA, HubB, ReaderB};
-use station::{Heard, Station, Wanted, Weighing};
+use station::{Cell, Heard, Station, Wanted, Weighed, Weighing};
 use widosha::Response;
 use words::tonnes;
 use world::{Event, Show, World};
@@ -214,6 +215,13 @@ fn show_losses(world: &World) {
     println!("the awaited number, within the wait, is an ACK to the standard. Only a message above the driver can find that.");
 }
 
+/// The cell of the container's crane.
+fn cell_of(world: &World, container: &str) -> Cell {
+    let who = if container.starts_with('A') { CellA } else { CellB };
+    let mut cells = world.stations.iter().filter(|station| station.who == who);
+    cells.next().expect("each crane has a cell").cell()
+}
+
 fn main() {
     let stations = vec![
         Station::new(HubA, 0xA00A, 0x0A00),
@@ -236,7 +244,9 @@ fn main() {
     for scene in [quiet_exchange, one_bit, pending_bit, four_bytes, wrong_wait, same_number] {
         scene(&mut world);
     }
-    for Container(name, _, weighed) in CONTAINERS {
+    for Container(name, _, kilograms) in CONTAINERS {
+        let by = cell_of(&world, name);
+        let weighed = Weighed { kilograms, by };
         assert_eq!(world.plan.get(name), (name != "A6").then_some(&weighed), "box {name}");
         assert_eq!(
             loses(&world, exact, name),

@@ -1,12 +1,12 @@
 //! The exported functions as they are, without any check. `tests/40-header.sh` compares these declarations with
-//! `include/widosha.h` and with the source of the library; `docs/LAYOUTS.md` gives the codes and both layouts.
+//! `include/widosha.h` and with the source of the library; `docs/LAYOUTS.md` gives the codes and all layouts.
 //!
-//! Each function returns 0 or the number of the refusal, and a refusal leaves all three slices as they were.
+//! Each function returns 0 or the number of the refusal, and a refusal leaves all slices as they were.
 //!
 //! # Safety
 //!
-//! Of every function: each pointer is valid for reads and writes of as many bytes as the length after it says, and the three slices
-//! of a call do not overlap. Any length and any number is answered; a pointer with length 0 may be null.
+//! Of every function: each pointer is valid for reads and writes (a `*const` one for reads) of as many bytes as the length after it
+//! says, and the slices of a call do not overlap. Any length and any number is answered; a pointer with length 0 may be null.
 
 /// Length of the state slice in bytes.
 pub const STATE_LENGTH: usize = 64;
@@ -14,6 +14,8 @@ pub const STATE_LENGTH: usize = 64;
 pub const REPLY_LENGTH: usize = 48;
 /// Length of one buffer of the pool in bytes.
 pub const BUFFER_LENGTH: usize = 144;
+/// Length of the slice of facts in bytes.
+pub const INFO_LENGTH: usize = 32;
 
 unsafe extern "C" {
     /// Checks the settings, writes the first state, and writes 02 10 00 into the ACK buffer's frame.
@@ -141,4 +143,7 @@ unsafe extern "C" {
         pool: *mut u8,
         pool_len: usize,
     ) -> u8;
+
+    /// What the header says of a frame of which these bytes have arrived.
+    pub fn widosha_preliminary_frame_info(frame: *const u8, frame_len: usize, info: *mut u8, info_len: usize) -> u8;
 }

@@ -1,6 +1,6 @@
 //! The exported functions on slices. All unsafe code of the crate is here and, as declarations, in `ffi`.
 #![allow(unsafe_code)]
-use crate::ffi::{self, REPLY_LENGTH, STATE_LENGTH};
+use crate::ffi::{self, INFO_LENGTH, REPLY_LENGTH, STATE_LENGTH};
 
 /// The three slices of a call. Exclusive borrows do not overlap, which is all that the library asks of them.
 pub(crate) struct Slices<'a> {
@@ -40,4 +40,10 @@ on_slices! {
     entered(result: u8, length: u16, time: u64, entry: u64) = widosha_entered;
     fallback(result: u8, length: u16, time: u64, cause: u8, cause_time: u64) = widosha_fallback;
     rollback() = widosha_rollback;
+}
+
+pub(crate) fn preliminary_frame_info(frame: &[u8], info: &mut [u8; INFO_LENGTH]) -> u8 {
+    // SAFETY: the frame's pointer comes from a shared borrow and is only read, that of the facts from an exclusive one, each of as
+    // many bytes as the length beside it says; both borrows live until the function returns, and it keeps no pointer.
+    unsafe { ffi::widosha_preliminary_frame_info(frame.as_ptr(), frame.len(), info.as_mut_ptr(), info.len()) }
 }

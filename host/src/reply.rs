@@ -117,7 +117,8 @@ pub enum Response {
 pub struct Answer {
     /// The request's token.
     pub token: u32,
-    /// The buffer that is returned. A received frame stands in it; it need not be the request's own.
+    /// The buffer that is returned. A received frame stands in it, and `DriverService::received` gives it; it need not be the
+    /// request's own.
     pub buffer: u8,
     /// What the request came to.
     pub response: Response,

@@ -1,8 +1,9 @@
 //! The driver service: the state and the pool with one method for each call.
-use crate::call::{Call, Cause, Request, StopResult, TaskResult, Timestamp};
+use crate::call::{Call, Cause, Request, RxResult, StopResult, TaskResult, Timestamp};
 use crate::ffi::{REPLY_LENGTH, STATE_LENGTH};
+use crate::info::Received;
 use crate::raw::{self, Slices};
-use crate::reply::{Refusal, Reply};
+use crate::reply::{Answer, Refusal, Reply, Response};
 use crate::settings::{Pool, Settings, FRAME_LENGTH};
 use crate::wait::Wait;
 
@@ -130,6 +131,17 @@ impl<const N: usize> DriverService<N> {
         let length = u16::try_from(bytes.len()).ok()?;
         self.frame_mut(buffer)?.get_mut(..bytes.len())?.copy_from_slice(bytes);
         Some(length)
+    }
+
+    /// The received frame of an answer, exactly its bytes without checksum, with what its header says. None if the answer is not
+    /// that of a received frame, or names a buffer or a length that the pool does not have. The answer returned the buffer, and
+    /// what stands in it now is taken: ask before it is used again.
+    pub fn received(&self, answer: &Answer) -> Option<Received<'_>> {
+        let Response::Received(RxResult::Frame { length, .. }) = answer.response else {
+            return None;
+        };
+        let frame = self.frame(answer.buffer)?.get(..usize::from(length))?;
+        Some(Received::of(frame))
     }
 
     /// What start set.
@@ -367,5 +379,41 @@ mod tests {
         );
         let result = TaskResult::Rx(RxResult::CrcError { time: 6 });
         assert_eq!(service.entered(result, 7).map(|reply| reply.action), Ok(Action::Listen));
+    }
+
+    // The frame stands after the headroom, has the answer's length and not the buffer's, and is looked for in the answer's buffer.
+    #[test]
+    fn received_frames_are_those_of_the_answer() {
+        let mut service = started();
+        service.put_frame(1, &[0x41, 0x88, 7, 0x34, 0x12, 0x77, 0x66, 1, 0, 0xee, 0xff]);
+        let of = |buffer, length| Answer {
+            token: 9,
+            buffer,
+            response: Response::Received(RxResult::Frame { length, time: 3 }),
+        };
+        let received = service.received(&of(1, 10)).expect("a received frame");
+        assert_eq!(received.frame, [0x41, 0x88, 7, 0x34, 0x12, 0x77, 0x66, 1, 0, 0xee]);
+        assert_eq!(received.info, PreliminaryFrameInfo::of(received.frame));
+        assert_eq!(received.info.src_address, Some(Address::Short(1)));
+        assert_eq!(received.after_addressing(), Some(&[0xee][..]));
+        assert_eq!(service.received(&of(1, 8)).and_then(|cut| cut.info.src_address), None);
+        assert_eq!(
+            service.received(&of(2, 10)).map(|other| other.frame),
+            Some(&[0; 10][..]),
+            "another buffer"
+        );
+        assert_eq!(service.received(&of(1, 127)).map(|longest| longest.frame.len()), Some(127));
+        assert_eq!(service.received(&of(1, 128)), None, "no frame is as long");
+        assert_eq!(service.received(&of(4, 10)), None, "there is no buffer 4");
+        let others = [
+            Response::Sent { time: 3 },
+            Response::Nack { time: 3 },
+            Response::Error(Cause::Task),
+            Response::Received(RxResult::RxWindowEnded),
+            Response::Received(RxResult::CrcError { time: 3 }),
+        ];
+        for response in others {
+            assert_eq!(service.received(&Answer { response, ..of(1, 10) }), None, "{response:?}");
+        }
     }
 }

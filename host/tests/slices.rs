@@ -1,9 +1,10 @@
 //! Slices of wrong lengths, null pointers with length 0 among them, for every exported function: refused in checking order, and not
-//! one byte written.
+//! one byte written. Only a frame has no wrong length.
 mod common;
 mod model;
 
-use common::compare::Pair;
+use common::compare::{must_read, Pair};
+use common::library::FrameSlices;
 use common::random::Rng;
 use common::reached::{collect, Reached};
 use common::run::{Opening, Run, Step};
@@ -102,7 +103,7 @@ fn returned_on(call: &Option<(Raw, Reached)>, lengths: [usize; 3], empty: Empty)
     returned
 }
 
-/// Every function: start is first, then the nine calls.
+/// Start first, then the nine calls.
 fn every_function() -> Vec<Option<(Raw, Reached)>> {
     let mut all = vec![None];
     all.extend(fitting_calls().into_iter().map(Some));
@@ -207,4 +208,56 @@ fn wrong_lengths_in_every_wait() {
         }
     }
     println!("slices: {count} wrong lengths in every wait");
+}
+
+/// Frames of the header reader: none, cut off, whole, and longer than any.
+fn some_frames() -> Vec<Vec<u8>> {
+    let mut rng = Rng::new(seed(13));
+    let mut frames = vec![Vec::new()];
+    for control in [0x0002u16, 0x8861, 0xa841, 0xdc01, 0xec41, 0x0004, 0xffff] {
+        for length in [1, 2, 3, 8, 9, 22, 23, 24, 31, 32, 33, 127, 300] {
+            let mut frame = control.to_le_bytes().to_vec();
+            frame.resize(length, 0);
+            if length > 2 {
+                rng.fill(&mut frame[2..]);
+            }
+            frames.push(frame);
+        }
+    }
+    frames
+}
+
+#[test]
+fn wrong_lengths_of_facts_are_1() {
+    let mut count = 0;
+    for frame in some_frames() {
+        let lengths = (0..=40).chain([48, 63, 64, 65, 127, 255, 256, 287, 288, 289, 65_535, 65_536, 65_568]);
+        for length in lengths.filter(|length| *length != 32) {
+            let info: Vec<u8> = (0..length).map(|at| 0x88 ^ at as u8).collect();
+            let mut slices = FrameSlices::new(&frame, &info);
+            assert_eq!(must_read(&mut slices), 1, "{frame:02x?}, facts {length}");
+            assert_eq!(slices.info.get(), info, "a refusal changed the slice of facts");
+            count += 1;
+        }
+    }
+    println!("slices: {count} wrong lengths of facts");
+}
+
+/// As a frame, a null pointer with length 0 is one of which no byte has arrived; as facts it is refused.
+#[test]
+fn null_pointers_of_the_header_reader() {
+    let mut count = 0;
+    for frame in some_frames() {
+        for info in [vec![], vec![0x99; 32], vec![0x99; 31]] {
+            let mut slices = FrameSlices::new(&frame, &info);
+            slices.null_if_empty = true;
+            let expected = if info.len() == 32 { 0 } else { 1 };
+            assert_eq!(must_read(&mut slices), expected, "{frame:02x?}, facts {}", info.len());
+            if expected == 0 && frame.is_empty() {
+                assert_eq!(slices.info.get(), [0; 32], "no byte has arrived, so no fact is there");
+            }
+            count += usize::from(frame.is_empty() || info.is_empty());
+        }
+    }
+    println!("slices: {count} reads with null pointers of length 0");
 }

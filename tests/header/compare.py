@@ -1,6 +1,6 @@
-"""Compares the declarations of the exported functions: include/widosha.h, the source crates/driver_c/src/lib.rt, host/src/ffi.rs and
-the table of docs/LAYOUTS.md. Names, argument names, their order, widths and results have to agree, and no function may be missing
-anywhere. So do the three lengths.
+"""Compares the declarations of the exported functions: include/widosha.h, the sources of crates/driver_c and crates/frame_c,
+host/src/ffi.rs and the table of docs/LAYOUTS.md. Names, argument names, their order, widths and results have to agree, and no function may be missing
+anywhere. So do whether a slice is only read, and the four lengths.
 
     compare.py              compares; a difference is printed and ends with 1
     compare.py --self-test  mutates the text of each declaration, one change at a time, and checks that each change is found
@@ -10,13 +10,25 @@ import sys
 
 SOURCES = {
     "header": "include/widosha.h",
-    "source": "crates/driver_c/src/lib.rt",
+    "source": "crates/driver_c/src/lib.rt crates/frame_c/src/lib.rt",
     "host": "host/src/ffi.rs",
     "table": "docs/LAYOUTS.md",
 }
 SLICES = [("state", "slice"), ("reply", "slice"), ("pool", "slice")]
+SLICES_OF = {"widosha_preliminary_frame_info": [("frame", "slice that is only read"), ("info", "slice")]}
 WIDTHS = ("u8", "u16", "u32", "u64")
-LENGTHS = ("STATE", "REPLY", "BUFFER")
+LENGTHS = ("STATE", "REPLY", "BUFFER", "INFO")
+# Where a text states a length; docs/LAYOUTS.md does so in a sentence and in a heading.
+STATED = {
+    "header": {name: [r"#define WIDOSHA_%s_LENGTH (\d+)\n" % name] for name in LENGTHS},
+    "host": {name: [r"pub const %s_LENGTH: usize = (\d+);\n" % name] for name in LENGTHS},
+    "table": {
+        "STATE": [r"the state\s+\((\d+)\s+bytes\)", r"## The state's (\d+) bytes\n"],
+        "REPLY": [r"the reply\s+\((\d+)\s+bytes\)", r"## The reply's (\d+) bytes\n"],
+        "BUFFER": [r"the pool\s+\((\d+)\s+×\s+n\s+bytes\)"],
+        "INFO": [r"the facts\s+\((\d+)\s+bytes\)", r"## The facts' (\d+) bytes\n"],
+    },
+}
 
 
 class Unreadable(Exception):
@@ -93,7 +105,7 @@ def read_host(text):
 
 
 def read_table(text):
-    """The rows of the table give the numbers; slices and result are what the text above the table says of every function."""
+    """The rows of the table give the numbers; slices and result are what the text around the table says of every function."""
     found = []
     for match in re.finditer(r"^\| (`)(widosha_\w+)` \| (.*?) \|$", text, flags=re.M):
         parameters = [] if match.group(3) == "none" else pieces(match.group(3), match.start(3))
@@ -110,26 +122,29 @@ READERS = {"header": read_header, "source": read_source, "host": read_host, "tab
 
 
 def in_header(parameter):
-    match = re.fullmatch(r"(uint(8|16|32|64)_t|size_t)\s*(\*?)\s*(\w+)", parameter)
-    if not match:
+    match = re.fullmatch(r"(const\s+)?(uint(8|16|32|64)_t|size_t)\s*(\*?)\s*(\w+)", parameter)
+    if not match or (match.group(1) and not match.group(4)):
         raise Unreadable(parameter)
-    width = "u" + match.group(2) if match.group(2) else "size"
-    return match.group(4), ("pointer to " if match.group(3) else "") + width
+    width = "u" + match.group(3) if match.group(3) else "size"
+    pointer = "pointer to " if match.group(4) else ""
+    return match.group(5), pointer + ("const " if match.group(1) else "") + width
 
 
 def in_source(parameter):
     match = re.fullmatch(r"(\w+)\s*:\s*(.+)", parameter, flags=re.S)
     if not match:
         raise Unreadable(parameter)
+    kinds = {"&mut [u8]": "slice", "&[u8]": "slice that is only read"}
     kind = " ".join(match.group(2).split())
-    if kind not in WIDTHS + ("&mut [u8]",):
+    kind = kinds.get(kind, kind)
+    if kind not in WIDTHS + tuple(kinds.values()):
         raise Unreadable(parameter)
-    return match.group(1), "slice" if kind == "&mut [u8]" else kind
+    return match.group(1), kind
 
 
 def in_host(parameter):
     match = re.fullmatch(r"(\w+)\s*:\s*(.+)", parameter, flags=re.S)
-    kinds = {"*mut u8": "pointer to u8", "usize": "size"}
+    kinds = {"*mut u8": "pointer to u8", "*const u8": "pointer to const u8", "usize": "size"}
     kind = kinds.get(match.group(2), match.group(2)) if match else None
     if kind not in WIDTHS + tuple(kinds.values()):
         raise Unreadable(parameter)
@@ -148,11 +163,12 @@ FORMS = {"header": in_header, "source": in_source, "host": in_host, "table": in_
 
 def fold(arguments):
     """A pointer and, next to it, its length are one slice."""
+    slices = {"pointer to u8": "slice", "pointer to const u8": "slice that is only read"}
     folded = []
     for name, kind in arguments:
         last = folded[-1] if folded else ("", "")
-        if kind == "size" and last[1] == "pointer to u8" and name == last[0] + "_len":
-            folded[-1] = (last[0], "slice")
+        if kind == "size" and last[1] in slices and name == last[0] + "_len":
+            folded[-1] = (last[0], slices[last[1]])
         else:
             folded.append((name, kind))
     return folded
@@ -162,12 +178,12 @@ def signatures(which, text):
     """Function name to (arguments, result), each in words that all four texts share."""
     found = {}
     for declaration in READERS[which](text):
+        name = declaration.name.text
         arguments = fold([FORMS[which](parameter.text) for parameter in declaration.parameters])
         if which == "table":
-            arguments, result = arguments + SLICES, "u8"
+            arguments, result = arguments + SLICES_OF.get(name, SLICES), "u8"
         else:
             result = {"uint8_t": "u8"}.get(declaration.result.text, declaration.result.text)
-        name = declaration.name.text
         if name in found:
             raise Unreadable("%s is declared twice" % name)
         found[name] = (arguments, result)
@@ -176,17 +192,9 @@ def signatures(which, text):
     return found
 
 
-def lengths(texts):
-    """Where each of the three lengths is stated: (which, text) to number."""
-    stated = {}
-    for name in LENGTHS:
-        stated["header", name] = re.findall(r"#define WIDOSHA_%s_LENGTH (\d+)\n" % name, texts["header"])
-        stated["host", name] = re.findall(r"pub const %s_LENGTH: usize = (\d+);\n" % name, texts["host"])
-    table = texts["table"]
-    stated["table", "STATE"] = re.findall(r"the state\n?\s*\((\d+) bytes\)", table) + re.findall(r"## The state's (\d+) bytes", table)
-    stated["table", "REPLY"] = re.findall(r"the reply \((\d+) bytes\)", table) + re.findall(r"## The reply's (\d+) bytes", table)
-    stated["table", "BUFFER"] = re.findall(r"the pool \((\d+) × n bytes\)", table)
-    return stated
+def lengths(which, text, name):
+    """The places where a text states a length, as lists: one for each way of stating it."""
+    return [[match.span(1) for match in re.finditer(pattern, text)] for pattern in STATED[which][name]]
 
 
 def differences(texts):
@@ -203,10 +211,11 @@ def differences(texts):
         if len({repr(signature) for signature in held.values()}) > 1:
             lines = ["    %s: %s" % (SOURCES[which], shown(signature)) for which, signature in held.items()]
             found.append("%s differs:\n%s" % (name, "\n".join(lines)))
-    stated = lengths(texts)
     for name in LENGTHS:
-        numbers = {which: stated[which, name] for which in ("header", "host", "table")}
-        if not all(numbers.values()) or len({number for each in numbers.values() for number in each}) != 1:
+        places = {which: lengths(which, texts[which], name) for which in STATED}
+        numbers = {which: [texts[which][start:end] for way in places[which] for start, end in way] for which in STATED}
+        stated = all(way for ways in places.values() for way in ways)
+        if not stated or len({number for each in numbers.values() for number in each}) != 1:
             found.append("length of %s differs: %s" % (name.lower(), numbers))
     return found
 
@@ -232,15 +241,32 @@ def other_width(text):
     return replaced(text, match.start(), match.end(), word)
 
 
+# What is only read, and what is written.
+ACCESS = {"header": ("const uint8_t *", "uint8_t *"), "source": ("&[u8]", "&mut [u8]"), "host": ("*const u8", "*mut u8")}
+
+
+def other_access(which, text):
+    """The same pointer or slice, only read instead of written or the other way round; the same text if it is neither."""
+    if which not in ACCESS:
+        return text
+    only_read, written = ACCESS[which]
+    return text.replace(only_read, written) if only_read in text else text.replace(written, only_read)
+
+
 def mutations_of(which, text, declaration):
     """(what, mutated text) for each single change of one declaration."""
     name, parameters = declaration.name, declaration.parameters
     yield "rename", replaced(text, name.start, name.end, name.text + "x")
+    if which == "table" and not parameters:
+        yield "a number", replaced(text, name.end, name.end + len("` | none"), "` | extra (8)")
     if declaration.result:
         result = declaration.result
         yield "result", replaced(text, result.start, result.end, other_width(result.text))
     for place, each in enumerate(parameters):
         yield "width of %s" % each.text, replaced(text, each.start, each.end, other_width(each.text))
+        access = other_access(which, each.text)
+        if access != each.text:
+            yield "access of %s" % each.text, replaced(text, each.start, each.end, access)
         label = re.match(r"\w+", each.text) if which != "header" else re.search(r"\w+$", each.text)
         start = each.start + label.start()
         yield "name of %s" % each.text, replaced(text, start, start + len(label.group()), label.group() + "x")
@@ -255,14 +281,9 @@ def mutations_of(which, text, declaration):
 
 
 def mutations_of_lengths(which, text):
-    patterns = {
-        "header": r"(?<=_LENGTH )\d+",
-        "host": r"(?<=usize = )\d+",
-        "table": r"(?<=the state\n\()\d+|(?<=the reply \()\d+|(?<=the pool \()\d+|(?<=## The state's )\d+|(?<=## The reply's )\d+",
-    }
-    for match in re.finditer(patterns.get(which, r"(?!)"), text):
-        number = str(int(match.group()) + 1)
-        yield "length %s" % match.group(), replaced(text, match.start(), match.end(), number)
+    for name in STATED.get(which, ()):
+        for start, end in sum(lengths(which, text, name), []):
+            yield "length of %s" % name.lower(), replaced(text, start, end, str(int(text[start:end]) + 1))
 
 
 def self_test(texts):
@@ -282,12 +303,14 @@ def self_test(texts):
 
 def main():
     texts = {}
-    for which, path in SOURCES.items():
-        try:
-            with open(path, encoding="utf-8") as file:
-                texts[which] = file.read()
-        except OSError as error:
-            sys.exit("%s: %s" % (path, error.strerror))
+    for which, paths in SOURCES.items():
+        texts[which] = ""
+        for path in paths.split():
+            try:
+                with open(path, encoding="utf-8") as file:
+                    texts[which] += file.read()
+            except OSError as error:
+                sys.exit("%s: %s" % (path, error.strerror))
     found = differences(texts)
     if found:
         print("\n".join(found))

@@ -1,6 +1,6 @@
-//! Compares the proved library with the unchanged Rust.
+//! Compares the proved libraries with the unchanged Rust.
 //!
-//!     compare NAME DIFFERENCES.md     NAME: is_valid, lengths, filter, ack_seq_num, from_mpdu_length
+//!     compare NAME DIFFERENCES.md     NAME: is_valid, lengths, filter, ack_seq_num, from_mpdu_length, source, mpdu
 //!     compare sample                  prints the lines R and X of crates/leaf_vectors/stdin
 //!
 //! A difference has to belong to a class, and the classes that occur, with the number of their differences, have to be those
@@ -10,22 +10,28 @@ use std::{
     collections::BTreeMap,
     fmt::Write,
     num::NonZero,
-    panic::{catch_unwind, set_hook},
+    panic::{catch_unwind, set_hook, AssertUnwindSafe},
     process::exit,
 };
 
-use dot15d4_frame::mpdu::imm_ack_frame;
+use dot15d4_frame::mpdu::{imm_ack_frame, MpduFrame};
 use dot15d4_util::allocator::{BufferToken, IntoBuffer};
 use driver_off::{
     radio::{
-        frame::{AddressingMode, AddressingRepr, FrameControl, RadioFrame, RadioFrameRepr, RadioFrameSized},
+        frame::{
+            Address, AddressingFields, AddressingMode, AddressingRepr, FrameControl, PanId, RadioFrame,
+            RadioFrameRepr, RadioFrameSized,
+        },
         phy::{Ifs, OQpsk250KBit, Phy},
+        tasks::PreliminaryFrameInfo,
     },
-    Config,
+    reader, Config,
 };
 
 #[allow(dead_code)]
 mod ours;
+
+use ours::{MISSING, OMITTED};
 
 /// What the Rust does.
 #[derive(Clone, Copy, Debug, PartialEq, Eq)]
@@ -107,6 +113,63 @@ mod rust {
         }
     }
 
+    /// The facts of a header by a reader of the Rust.
+    fn facts<'frame>(read: impl FnOnce() -> PreliminaryFrameInfo<'frame>) -> [Rust; FACTS.len()] {
+        let facts = catch_unwind(AssertUnwindSafe(|| {
+            let info = read();
+            FACTS.map(|fact| (fact.rust)(&info).unwrap_or(MISSING))
+        }));
+        facts.map_or([Rust::Panics; FACTS.len()], |facts| facts.map(Rust::Answers))
+    }
+
+    /// The header reader of the stand-ins: `AddressingFields::try_new` takes all bytes of the addressing fields or none.
+    pub fn preliminary(frame: &[u8]) -> [Rust; FACTS.len()] {
+        facts(|| reader::preliminary_frame_info(frame))
+    }
+
+    /// One fact of the addressing fields over as many of their bytes as have arrived. A reader takes its field out of the bytes
+    /// by an index and panics where they end before it: then the fact is missing.
+    pub fn arrived(function: char, frame: &[u8]) -> u64 {
+        let fact = FACTS[place(function)];
+        let control = u16::from_le_bytes([frame[0], frame[1]]);
+        let fields = frame.get(2 + has_number(control) as usize..).unwrap_or(&[]);
+        let fact = catch_unwind(|| {
+            let repr = AddressingRepr::try_from_frame_control(control_of(control)).ok()?;
+            // Safety: It wants all bytes, but only keeps them and the places of the fields; the readers index.
+            let fields = unsafe { AddressingFields::new_unchecked(fields, repr) };
+            (fact.rust)(&PreliminaryFrameInfo {
+                mpdu_length: 0,
+                frame_control: None,
+                seq_nr: None,
+                addressing_fields: Some(fields),
+            })
+        });
+        fact.ok().flatten().unwrap_or(MISSING)
+    }
+
+    /// The frame reader of fields/mpdu.rs, for a frame that begins eight bytes into a longer buffer; BEHIND is behind it.
+    pub fn mpdu(buffer: BufferToken, frame: &[u8]) -> ([Rust; FACTS.len()], BufferToken) {
+        let mut buffer = buffer;
+        buffer[8..].fill(BEHIND);
+        buffer[8..8 + frame.len()].copy_from_slice(frame);
+        let length = NonZero::new(frame.len() as u16).unwrap();
+        // Safety: The buffer is as long as the longest frame and more.
+        let mpdu = unsafe { MpduFrame::new(buffer, 8, length) };
+        let facts = facts(|| {
+            let control = mpdu.frame_control().into_inner().try_into().unwrap();
+            let addressed = mpdu.reader().parse_addressing();
+            PreliminaryFrameInfo {
+                mpdu_length: length.get(),
+                frame_control: Some(FrameControl::new_unchecked(control)),
+                seq_nr: mpdu.sequence_number(),
+                addressing_fields: addressed
+                    .and_then(|reader| reader.try_into_addressing_fields())
+                    .ok(),
+            }
+        });
+        (facts, mpdu.into_buffer())
+    }
+
     /// 256 is none. The bytes of the frame stand behind a headroom of H bytes.
     pub fn ack_seq_num<const H: u8>(buffer: BufferToken, frame: &[u8]) -> (Rust, BufferToken) {
         let mut buffer = buffer;
@@ -154,6 +217,109 @@ mod rust {
     }
 }
 
+// --------------------------------------------------------------------- facts
+
+/// A fact of a header: how the vectors ask for it (docs/VECTORS.md), and its number. The Rust has none where it is missing.
+#[derive(Clone, Copy)]
+struct Fact {
+    function: char,
+    name: &'static str,
+    ours: fn(&ours::Facts) -> u64,
+    rust: fn(&PreliminaryFrameInfo) -> Option<u64>,
+}
+
+const fn fact(
+    function: char,
+    name: &'static str,
+    ours: fn(&ours::Facts) -> u64,
+    rust: fn(&PreliminaryFrameInfo) -> Option<u64>,
+) -> Fact {
+    Fact {
+        function,
+        name,
+        ours,
+        rust,
+    }
+}
+
+const FACTS: [Fact; 9] = [
+    fact('c', "control", ours::Facts::control, |info| {
+        Some(u16::from_le_bytes(info.frame_control.clone()?.into_inner()) as u64)
+    }),
+    fact('s', "number", ours::Facts::seq_nr, |info| {
+        info.seq_nr.map(u64::from)
+    }),
+    fact('p', "destination PAN", ours::Facts::dst_pan_id, |info| {
+        Some(pan_id(fields(info)?.try_dst_pan_id()).unwrap_or(OMITTED))
+    }),
+    fact('m', "destination mode", ours::Facts::dst_length, |info| {
+        length(fields(info)?.try_dst_address())
+    }),
+    fact('d', "destination", ours::Facts::dst_address, |info| {
+        address(fields(info)?.try_dst_address())
+    }),
+    fact('q', "source PAN", ours::Facts::src_pan_id, |info| {
+        pan_id(fields(info)?.try_src_pan_id())
+    }),
+    fact('n', "source mode", ours::Facts::src_length, |info| {
+        length(fields(info)?.try_src_address())
+    }),
+    fact('o', "source", ours::Facts::src_address, |info| {
+        address(fields(info)?.try_src_address())
+    }),
+    fact('e', "end", ours::Facts::end, |info| {
+        Some(2 + info.seq_nr.is_some() as u64 + fields(info)?.length() as u64)
+    }),
+];
+
+fn place(function: char) -> usize {
+    FACTS.iter().position(|fact| fact.function == function).unwrap()
+}
+
+fn fields<'info, 'frame>(
+    info: &'info PreliminaryFrameInfo<'frame>,
+) -> Option<&'info AddressingFields<&'frame [u8]>> {
+    info.addressing_fields.as_ref()
+}
+
+fn pan_id(id: Option<PanId<&[u8]>>) -> Option<u64> {
+    Some(id?.into_u16() as u64)
+}
+
+fn length(address: Option<Address<&[u8]>>) -> Option<u64> {
+    Some(address?.length() as u64)
+}
+
+fn address(address: Option<Address<&[u8]>>) -> Option<u64> {
+    let address = address?;
+    let bytes = address.as_le_bytes().iter().rev();
+    Some(bytes.fold(0, |sum, byte| sum << 8 | *byte as u64))
+}
+
+/// What stands in the buffer behind a frame.
+const BEHIND: u8 = 0xEE;
+
+/// The byte at each place of a frame: no two are the same, so that a field that was read at a wrong place shows.
+const CONTENTS: [fn(u8) -> u8; 2] = [|at| 0x10 + at, |at| 0xFF - at];
+
+fn counting(control: u16, length: usize, content: fn(u8) -> u8) -> Vec<u8> {
+    let mut frame: Vec<u8> = (0..length as u8).map(content).collect();
+    frame[..2].copy_from_slice(&control.to_le_bytes());
+    frame
+}
+
+/// Every control, of 0 bytes to two more than the longest header has.
+fn compare_cut(mut each: impl FnMut(&[u8])) {
+    for control in 0..=u16::MAX {
+        for content in CONTENTS {
+            let frame = counting(control, 25, content);
+            for arrived in 0..=frame.len() {
+                each(&frame[..arrived]);
+            }
+        }
+    }
+}
+
 // ------------------------------------------------------------------- classes
 
 fn kind(control: u16) -> u16 {
@@ -170,6 +336,15 @@ fn modes(control: u16) -> (u16, u16) {
 
 fn has_reserved_mode(control: u16) -> bool {
     modes(control).0 == 1 || modes(control).1 == 1
+}
+
+fn is_well_formed(control: u16) -> bool {
+    kind(control) < 4 && version(control) < 3 && !has_reserved_mode(control)
+}
+
+/// Bit 8 suppresses the number in version 2 only.
+fn has_number(control: u16) -> bool {
+    version(control) != 2 || control >> 8 & 1 == 0
 }
 
 fn class_of_is_valid(control: u16, rust: Rust, ours: u64) -> Option<&'static str> {
@@ -231,6 +406,90 @@ fn class_of_ack_seq_num(frame: &[u8], rust: Rust, ours: u64) -> Option<&'static 
     (wants && rust == Rust::Answers(256) && ours == frame[2] as u64).then_some("ack_seq_num/suppressed")
 }
 
+fn class_of_mpdu(at: usize, frame: &[u8], rust: Rust, ours: u64) -> Option<&'static str> {
+    // The comparison `source` has the reasons for ours.
+    if due(at, frame) != Some(ours) {
+        return None;
+    }
+    let [low, high, ..] = *frame else {
+        return Some("mpdu/short");
+    };
+    let control = u16::from_le_bytes([low, high]);
+    if !is_well_formed(control) {
+        return Some("mpdu/not-well-formed");
+    }
+    if version(control) < 2 && control >> 8 & 1 == 1 {
+        return Some("mpdu/suppressed");
+    }
+    let completed = [frame, &[BEHIND; 23]].concat();
+    match rust::four_lengths(control) {
+        Ok(Ok([0, 0, 0, 0]) | Err(())) if rust == Rust::Answers(MISSING) => Some("mpdu/no-address"),
+        Ok(Ok([_, _, 0, 2 | 8])) if FACTS[at].function == 'q' && rust == Rust::Answers(MISSING) => {
+            Some("mpdu/pan-elided")
+        }
+        _ if ours == MISSING && rust == rust::preliminary(&completed)[at] => Some("mpdu/short"),
+        _ => None,
+    }
+}
+
+/// A class that has an input: what ours is there, and what the Rust says where it differs, if that is always the same.
+#[derive(Clone, Copy)]
+struct Listed {
+    class: &'static str,
+    rust: Option<Rust>,
+    ours: u64,
+}
+
+fn listed_source(at: usize, frame: &[u8]) -> Option<Listed> {
+    const NO_FACT: Option<Rust> = Some(Rust::Answers(MISSING));
+    let listed = |class, rust, ours| Some(Listed { class, rust, ours });
+    let function = FACTS[at].function;
+    let control = u16::from_le_bytes([*frame.first()?, *frame.get(1)?]);
+    if kind(control) == 4 || version(control) == 3 {
+        return None;
+    }
+    let last = if function == 'c' { control as u64 } else { MISSING };
+    if has_reserved_mode(control) {
+        return listed("source/mode", Some(Rust::Panics), last);
+    }
+    if kind(control) > 4 {
+        return listed("source/type", None, last);
+    }
+    match (function, modes(control)) {
+        ('c' | 's', _) => None,
+        (_, (0, 0)) if version(control) < 2 => {
+            // Version 2 has this header too, and there the Rust reads it.
+            let same = (control & !0x3140 | 0x2000).to_le_bytes();
+            listed(
+                "source/no-address",
+                NO_FACT,
+                due(at, &[&same, &frame[2..]].concat())?,
+            )
+        }
+        ('p' | 'm' | 'd' | 'e', _) | ('q', (_, 0)) => None,
+        ('q', _) if matches!(rust::four_lengths(control), Ok(Ok([_, _, 0, _]))) => {
+            let ours = match rust::arrived('p', frame) {
+                OMITTED => MISSING,
+                id => id,
+            };
+            listed("source/pan-elided", NO_FACT, ours)
+        }
+        ('n' | 'o', (_, 0)) => listed("source/absent", NO_FACT, 0),
+        _ => listed("source/cut", NO_FACT, rust::arrived(function, frame)),
+    }
+}
+
+/// What a fact has to be: as listed, or else as the Rust has it.
+fn due(at: usize, frame: &[u8]) -> Option<u64> {
+    if let Some(listed) = listed_source(at, frame) {
+        return Some(listed.ours);
+    }
+    match rust::preliminary(frame)[at] {
+        Rust::Answers(due) => Some(due),
+        _ => None,
+    }
+}
+
 #[derive(Default)]
 struct Seen {
     compared: u64,
@@ -250,10 +509,38 @@ impl Seen {
         show: impl Fn() -> String,
     ) {
         self.compared += 1;
-        if rust == Rust::Answers(ours) {
-            return;
+        if rust != Rust::Answers(ours) {
+            self.differ(rust, ours, class(), length, show);
         }
-        match class() {
+    }
+
+    /// Compares where the class of an input says what ours is: anything else is a difference in no class, also if the Rust says
+    /// the same.
+    fn compare_listed(
+        &mut self,
+        rust: Rust,
+        ours: u64,
+        listed: Option<Listed>,
+        length: usize,
+        show: impl Fn() -> String,
+    ) {
+        self.compared += 1;
+        if rust != Rust::Answers(listed.map_or(ours, |listed| listed.ours)) || rust != Rust::Answers(ours) {
+            let listed = listed.filter(|listed| listed.ours == ours);
+            let listed = listed.filter(|listed| listed.rust.is_none_or(|says| says == rust));
+            self.differ(rust, ours, listed.map(|listed| listed.class), length, show);
+        }
+    }
+
+    fn differ(
+        &mut self,
+        rust: Rust,
+        ours: u64,
+        class: Option<&'static str>,
+        length: usize,
+        show: impl Fn() -> String,
+    ) {
+        match class {
             Some(class) => {
                 *self.classes.entry(class).or_default() += 1;
                 if self.smallest.get(class).is_none_or(|(known, _)| length < *known) {
@@ -346,7 +633,7 @@ fn around_u64(number: u64, turn: usize) -> [u64; 8] {
 /// addresses.
 fn header(control: u16, lengths: [u8; 4], pan: u16, short: u16, extended: u64) -> Vec<u8> {
     let mut bytes = control.to_le_bytes().to_vec();
-    if !(version(control) == 2 && control >> 8 & 1 == 1) {
+    if has_number(control) {
         bytes.push(0x84);
     }
     bytes.extend(&pan.to_le_bytes()[..lengths[0] as usize]);
@@ -420,6 +707,7 @@ impl Sample {
         });
         let (section, expected, remark) = match (rust, ours) {
             (Rust::Answers(answer), None) => ('R', answer, String::new()),
+            (Rust::Answers(MISSING), Some(ours)) => ('X', ours, "the Rust: missing".into()),
             (Rust::Answers(answer), Some(ours)) => ('X', ours, format!("the Rust: {answer}")),
             (Rust::Fails, Some(ours)) => ('X', ours, "the Rust: error".into()),
             (Rust::Panics, Some(ours)) => ('X', ours, "the Rust: panic".into()),
@@ -549,6 +837,34 @@ fn sample() -> String {
         );
     }
 
+    // The facts of request E2, for every pair of modes in versions 0 to 2.
+    for (turn, control) in sample_controls().into_iter().take(96).enumerate() {
+        let lengths = rust::four_lengths(control).unwrap_or(Err(())).unwrap_or_default();
+        let end = 2 + has_number(control) as usize + lengths.iter().sum::<u8>() as usize;
+        let header = counting(control, end, CONTENTS[0]);
+        let mut asked = vec![(&header[..], 'e')];
+        if is_well_formed(control) {
+            // Cut off within the source, before it, or within what stands before it.
+            let source = lengths[3] as usize;
+            let part = &header[..end - [1, source.max(1), source + 1][turn % 3]];
+            asked.extend([(&header[..], 'q'), (&header[..], 'o')]);
+            asked.extend([(part, 'q'), (part, ['n', 'o', 'e'][turn / 3 % 3])]);
+        }
+        for (frame, function) in asked {
+            let at = place(function);
+            let rust = rust::preliminary(frame)[at];
+            let differs = listed_source(at, frame).map(|listed| listed.ours);
+            let line = Line {
+                function,
+                frame,
+                a: 0,
+                b: 0,
+                c: 0,
+            };
+            sample.line(line, rust, differs.filter(|ours| rust != Rust::Answers(*ours)));
+        }
+    }
+
     for length in [
         0, 1, 3, 5, 17, 18, 19, 20, 126, 127, 128, 255, 256, 274, 32767, 65535,
     ] {
@@ -652,6 +968,33 @@ fn compare(name: &str) -> Option<Seen> {
                 let ours = ours::from_mpdu_length(length) as u64;
                 seen.compare(rust, ours, || None, 2, || format!("{length}"));
             }
+        }
+        "source" => compare_cut(|frame| {
+            let (rust, facts) = (rust::preliminary(frame), ours::facts(frame));
+            for (at, fact) in FACTS.iter().enumerate() {
+                let (ours, listed) = ((fact.ours)(&facts), listed_source(at, frame));
+                seen.compare_listed(rust[at], ours, listed, frame.len(), || {
+                    format!("{} of {frame:02x?}", fact.name)
+                });
+            }
+        }),
+        "mpdu" => {
+            let mut buffer = Some(BufferToken::new(vec![0; 8 + 127 + 8].leak()));
+            compare_cut(|frame| {
+                if frame.is_empty() {
+                    return;
+                }
+                let (rust, token) = rust::mpdu(buffer.take().unwrap(), frame);
+                buffer = Some(token);
+                let facts = ours::facts(frame);
+                for (at, fact) in FACTS.iter().enumerate() {
+                    let ours = (fact.ours)(&facts);
+                    let class = || class_of_mpdu(at, frame, rust[at], ours);
+                    seen.compare(rust[at], ours, class, frame.len(), || {
+                        format!("{} of {frame:02x?}", fact.name)
+                    });
+                }
+            });
         }
         _ => return None,
     }

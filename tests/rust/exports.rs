@@ -1,4 +1,4 @@
-//! Replays the vectors of crates/leaf_vectors/stdin that ask for an exported function, through the static library.
+//! Replays the vectors of crates/leaf_vectors/stdin that ask for an exported function, through the static libraries.
 //!
 //!     exports FILE
 
@@ -31,6 +31,14 @@ fn main() {
             "a" => ours::ack_seq_num(&frame) as u64,
             "i" => ours::from_mpdu_length(b) as u64,
             "k" => ours::is_ack_for(&frame, b, c) as u64,
+            "s" => ours::facts(&frame).seq_nr(),
+            "p" => ours::facts(&frame).dst_pan_id(),
+            "m" => ours::facts(&frame).dst_length(),
+            "d" => ours::facts(&frame).dst_address(),
+            "q" => ours::facts(&frame).src_pan_id(),
+            "n" => ours::facts(&frame).src_length(),
+            "o" => ours::facts(&frame).src_address(),
+            "e" => ours::facts(&frame).end(),
             _ => continue,
         };
         replayed += 1;

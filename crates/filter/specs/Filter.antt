@@ -46,14 +46,16 @@ addressingForUs hardware pan implicit (AddressingFact.Are f) =
     panIdForUs pan (f .«dst_pan_id») && addressForUs hardware implicit (f .«dst_address»)
 addressingForUs hardware pan implicit AddressingFact.Missing = false
 
--- "For us: frame control and addressing are there and well formed; .." The sequence number is not looked at.
+-- "For us: frame control and addressing are there and well formed; .." No other fact is looked at.
 unfoldable pub forUs : ℕ → ℕ → Bool → PreliminaryFrameInfo → Bool
 forUs hardware pan implicit info =
     controlPasses (info .«frame_control») && addressingForUs hardware pan implicit (info .«addressing_fields»)
 
 -- Laws, proved in proofs/Laws.antt.
 
--- the filter looks at nothing but control and addressing: any sequence number, there or not, gives the same answer
+-- The filter looks at nothing but control and addressing. So no source fact changes its answer: two frames whose control and
+-- addressing agree are both for us or both not, whatever their source PAN, source address, end of the address fields and sequence
+-- number are, there or missing.
 abbrev pub OnlyControlAndAddressing : Type 0
 OnlyControlAndAddressing =
     (hardware pan : ℕ) (implicit : Bool) (info other : PreliminaryFrameInfo) →

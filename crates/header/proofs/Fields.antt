@@ -2,7 +2,7 @@
 -- Assumes nothing.
 use Prim.Native.Nat.{ℕ, _+_, _<_, _≤_}
 use mathlib.Core.Bool.{Bool, true, false, cond, _||_}
-use mathlib.Core.Path.{_≡_, refl, sym, ap, _∙_}
+use mathlib.Core.Path.{_≡_, refl, sym, _∙_}
 use mathlib.Core.List.{List}
 use native.Mathlib.Omega.{arith}
 use lib.Dec.{eqb, leb}
@@ -13,17 +13,21 @@ use Rattle.frame_control.specs.declared.AddressingMode.the-variants.{Absent, Un
 use Rattle.frame_control.specs.declared.FrameControl.{FrameControl}
 use Rattle.frame_control.specs.FrameControl.{wellFormed}
 use Rattle.addressing.specs.declared.AddressingFieldsLengths.{AddressingFieldsLengths}
-use Rattle.addressing.specs.Addressing.{addressLength, panIdLength, panIdsOf, lengthsOf}
+use Rattle.addressing.specs.Addressing.{addressLength, present, panIdLength, panIdsOf, lengthsOf, Bounded}
+use Rattle.addressing.proofs.Laws.{lengths-bounded, source-pan-needs-source}
 use Rattle.header.specs.declared.FrameControlFact.{FrameControlFact}
 use Rattle.header.specs.declared.SeqNrFact.{SeqNrFact}
 use Rattle.header.specs.declared.PanId.{PanId}
 use Rattle.header.specs.declared.Address.{Address}
 use Rattle.header.specs.declared.AddressingFact.{AddressingFact}
+use Rattle.header.specs.declared.SrcPanIdFact.{SrcPanIdFact}
+use Rattle.header.specs.declared.AddressFact.{AddressFact}
+use Rattle.header.specs.declared.AddressingEndFact.{AddressingEndFact}
+use Rattle.header.specs.declared.PreliminaryFrameInfo.{PreliminaryFrameInfo}
 use Rattle.header.specs.declared.NumberFound.{NumberFound}
 use Rattle.header.specs.declared.PanIdFound.{PanIdFound}
-use Rattle.header.specs.declared.AddressFound.{AddressFound}
-use Rattle.header.specs.Header.{frameControlFact, numberFound, panIdOf, addressOf, addressingBegin, addressingFrom, addressingFact, seqNrFact, afterControl, infoOf, totalLength}
-use Rattle.header.specs.Steps.{numberStep, panIdFound, addressFound}
+use Rattle.header.specs.Header.{addressingBegin, dstAddressBegin, srcPanIdBegin, srcAddressBegin, headerLength, frameControlFact, seqNrFact, panIdOf, addressOf, addressingFact, panIdBytes, srcPanIdFact, addressFact, srcAddressFact, addressingEndFact, controlAlone, numberedInfo, afterControl, infoOf}
+use Rattle.header.specs.Steps.{numberStep, panIdFound, unreadAddress, inheritedPanId, srcPanIdFrom, beforeGap}
 
 -- a test that chose one of two different values
 pub chose-first : {A : Type 0} {x y z : A} (b : Bool) → cond b x y ≡ z → (y ≡ z → ⊥) → (b ≡ true) × (x ≡ z)
@@ -34,6 +38,13 @@ pub chose-second : {A : Type 0} {x y : A} (b : Bool) → cond b x y ≡ y → (x
 chose-second true e h = absurd (h e)
 chose-second false e h = refl
 
+-- a test of the code is the definition's, and chose
+pub chosen : {A : Type 0} {b c : Bool} {x : A} (y : A) → b ≡ c → b ≡ true → x ≡ cond c x y
+chosen y e t = rw (sym e ∙ t)
+
+pub left-out : {A : Type 0} {b c : Bool} {y : A} (x : A) → b ≡ c → b ≡ false → y ≡ cond c x y
+left-out x e t = rw (sym e ∙ t)
+
 pub no-control : {fc : FrameControl} → FrameControlFact.Missing ≡ FrameControlFact.Is fc → ⊥
 no-control e = let z : _≡_ {A = ℕ} 0 1 = cc in omega arith
 
@@ -43,8 +54,16 @@ no-number e = let z : _≡_ {A = ℕ} 0 1 = cc in omega arith
 pub no-pan : {p : PanId} → PanIdFound.Missing ≡ PanIdFound.Is p → ⊥
 no-pan e = let z : _≡_ {A = ℕ} 0 1 = cc in omega arith
 
-pub no-address : {a : Address} → AddressFound.Missing ≡ AddressFound.Is a → ⊥
+pub no-address : {a : Address} → AddressFact.Missing ≡ AddressFact.Is a → ⊥
 no-address e = let z : _≡_ {A = ℕ} 0 1 = cc in omega arith
+
+pub begin-bounded : (fc : FrameControl) → (2 ≤ addressingBegin fc) × (addressingBegin fc ≤ 3)
+unfolding addressingBegin
+begin-bounded fc = go (fc .«sequence_number_suppression»)
+  where
+    go : (s : Bool) → (2 ≤ cond s 2 3) × (cond s 2 3 ≤ 3)
+    go true = (omega arith, omega arith)
+    go false = (omega arith, omega arith)
 
 module _ (frame : List ℕ) where
   pub control-there : {fc : FrameControl} → frameControlFact frame ≡ FrameControlFact.Is fc → 2 ≤ length frame
@@ -52,25 +71,28 @@ module _ (frame : List ℕ) where
   control-there e = leb-true _ _ (chose-first _ e no-control .0)
 
   -- what a passed number says, once control has arrived
-  pub record NumberPassed (s : Bool) (n : SeqNrFact) (at : ℕ) : Type 0 where
-    pub fact : n ≡ cond s SeqNrFact.Missing (numberFound frame)
-    pub place : at ≡ cond s 2 3
+  pub record NumberPassed (fc : FrameControl) (n : SeqNrFact) (at : ℕ) : Type 0 where
+    pub fact : n ≡ seqNrFact frame fc
     pub early : at < 4
+    pub place : at ≡ addressingBegin fc
     pub arrived : at ≤ length frame
 
-  pub number-there : (s : Bool) {n : SeqNrFact} {at : ℕ} → 2 ≤ length frame → numberStep frame s ≡ NumberFound.Then n at → NumberPassed s n at
-  unfolding numberStep numberFound
-  number-there true {n} {at} h e =
-      let p : at ≡ 2 = cc in
-      let f : n ≡ SeqNrFact.Missing = cc in
-      record { fact = f; place = p; early = omega arith; arrived = omega arith }
-  number-there false {n} {at} h e =
-      let b = chose-first (leb 3 (length frame)) e no-number in
-      let k = leb-true 3 (length frame) (b .0) in
-      let g : NumberFound.Then (SeqNrFact.Is (getD frame 2 0)) 3 ≡ NumberFound.Then n at = b .1 in
-      let p : at ≡ 3 = cc in
-      let f : n ≡ SeqNrFact.Is (getD frame 2 0) = cc in
-      record { fact = rw (b .0) f; place = p; early = omega arith; arrived = omega arith }
+  pub number-there : (fc : FrameControl) {n : SeqNrFact} {at : ℕ} → 2 ≤ length frame → numberStep frame (fc .«sequence_number_suppression») ≡ NumberFound.Then n at → NumberPassed fc n at
+  unfolding numberStep seqNrFact addressingBegin
+  number-there fc {n} {at} h e = go (fc .«sequence_number_suppression») refl e
+    where
+      go : (s : Bool) → fc .«sequence_number_suppression» ≡ s → numberStep frame s ≡ NumberFound.Then n at → NumberPassed fc n at
+      go true q f =
+          let p : at ≡ 2 = cc in
+          let g : n ≡ SeqNrFact.Missing = cc in
+          record { fact = rw q g; early = omega arith; place = rw q p; arrived = omega arith }
+      go false q f =
+          let b = chose-first (leb 3 (length frame)) f no-number in
+          let k = leb-true 3 (length frame) (b .0) in
+          let g : NumberFound.Then (SeqNrFact.Is (getD frame 2 0)) 3 ≡ NumberFound.Then n at = b .1 in
+          let p : at ≡ 3 = cc in
+          let i : n ≡ SeqNrFact.Is (getD frame 2 0) = cc in
+          record { fact = rw (q, b .0) i; early = omega arith; place = rw q p; arrived = omega arith }
 
   pub number-missing : (s : Bool) → numberStep frame s ≡ NumberFound.Missing → (s ≡ false) × (length frame < 3)
   unfolding numberStep
@@ -82,20 +104,20 @@ module _ (frame : List ℕ) where
   pan-there at true h e = leb-true _ _ (chose-first _ e no-pan .0)
   pan-there at false h e = omega arith
 
-  pub pan-missing : (at : ℕ) (stands : Bool) → panIdFound frame at (panIdLength stands) ≡ PanIdFound.Missing → length frame < at + panIdLength stands
+  pub pan-missing : (at : ℕ) (stands : Bool) → panIdFound frame at (panIdLength stands) ≡ PanIdFound.Missing → (stands ≡ true) × (length frame < at + 2)
   unfolding panIdFound panIdLength
-  pan-missing at true e = leb-false _ _ (chose-second _ e (λ f. no-pan (sym f)))
+  pan-missing at true e = (refl, leb-false _ _ (chose-second _ e (λ f. no-pan (sym f))))
   pan-missing at false e = absurd (no-pan (sym e))
 
-  pub address-there : (at : ℕ) (mode : AddressingMode) {a : Address} → at ≤ length frame → addressFound frame at mode ≡ AddressFound.Is a → at + addressLength mode ≤ length frame
-  unfolding addressFound addressLength
+  pub address-there : (at : ℕ) (mode : AddressingMode) {a : Address} → at ≤ length frame → addressFact frame at mode ≡ AddressFact.Is a → at + addressLength mode ≤ length frame
+  unfolding addressFact addressLength
   address-there at Absent h e = omega arith
   address-there at Unknown h e = omega arith
   address-there at Short h e = leb-true _ _ (chose-first _ e no-address .0)
   address-there at Extended h e = leb-true _ _ (chose-first _ e no-address .0)
 
-  pub address-missing : (at : ℕ) (mode : AddressingMode) → addressFound frame at mode ≡ AddressFound.Missing → length frame < at + addressLength mode
-  unfolding addressFound addressLength
+  pub address-missing : (at : ℕ) (mode : AddressingMode) → addressFact frame at mode ≡ AddressFact.Missing → length frame < at + addressLength mode
+  unfolding addressFact addressLength
   address-missing at Absent e = absurd (no-address (sym e))
   address-missing at Unknown e = absurd (no-address (sym e))
   address-missing at Short e = leb-false _ _ (chose-second _ e (λ f. no-address (sym f)))
@@ -106,15 +128,158 @@ module _ (frame : List ℕ) where
   unfolding panIdFound
   pan-is at len {p} e = let f : PanIdFound.Is (panIdOf frame at len) ≡ PanIdFound.Is p = chose-first (eqb len 0 || leb (at + 2) (length frame)) e no-pan .1 in cc
 
-  pub address-is : (at : ℕ) (mode : AddressingMode) {a : Address} → addressFound frame at mode ≡ AddressFound.Is a → a ≡ addressOf frame at mode
-  unfolding addressFound addressOf
+  pub address-is : (at : ℕ) (mode : AddressingMode) {a : Address} → addressFact frame at mode ≡ AddressFact.Is a → a ≡ addressOf frame at mode
+  unfolding addressFact addressOf
   address-is at Absent e = cc
   address-is at Unknown e = cc
-  address-is at Short {a} e = let f : AddressFound.Is (addressOf frame at Short) ≡ AddressFound.Is a = chose-first (leb (at + 2) (length frame)) e no-address .1 in cc
-  address-is at Extended {a} e = let f : AddressFound.Is (addressOf frame at Extended) ≡ AddressFound.Is a = chose-first (leb (at + 8) (length frame)) e no-address .1 in cc
+  address-is at Short {a} e = let f : AddressFact.Is (addressOf frame at Short) ≡ AddressFact.Is a = chose-first (leb (at + 2) (length frame)) e no-address .1 in cc
+  address-is at Extended {a} e = let f : AddressFact.Is (addressOf frame at Extended) ≡ AddressFact.Is a = chose-first (leb (at + 8) (length frame)) e no-address .1 in cc
 
--- The reader's steps in their order: a gap leaves no fact, and past the last field all is there. `l` is the lengths.
-module _ (frame : List ℕ) (fc : FrameControl) (at : ℕ) (l : AddressingFieldsLengths) (told : l ≡ lengthsOf fc) where
+  -- before its place an address is there exactly if it has no bytes
+  pub unread : (at : ℕ) (mode : AddressingMode) → length frame ≤ at → unreadAddress mode ≡ addressFact frame at mode
+  unfolding unreadAddress addressFact
+  unread at Absent h = refl
+  unread at Unknown h = refl
+  unread at Short h = rw (lt-leb (at + 2) (length frame) (omega arith))
+  unread at Extended h = rw (lt-leb (at + 8) (length frame) (omega arith))
+
+  -- The source PAN, by whether a PAN stands before the source (own) and before the destination (dst), and where. `abbrev` as in the
+  -- definition of the fact.
+  abbrev srcPan : Bool → Bool → AddressingMode → ℕ → ℕ → SrcPanIdFact
+  srcPan own dst mode begin place =
+      cond (present mode) (cond own (panIdBytes frame place) (cond dst (panIdBytes frame begin) SrcPanIdFact.Missing)) SrcPanIdFact.Missing
+
+  -- neither PAN has arrived
+  no-pan-yet : (own dst : Bool) (mode : AddressingMode) (begin place : ℕ) → begin ≤ place → length frame < begin + 2 → SrcPanIdFact.Missing ≡ srcPan own dst mode begin place
+  no-pan-yet own dst mode begin place h k = go own dst (present mode)
+    where
+      go : (own dst source : Bool) → SrcPanIdFact.Missing ≡ cond source (cond own (panIdBytes frame place) (cond dst (panIdBytes frame begin) SrcPanIdFact.Missing)) SrcPanIdFact.Missing
+      go own dst false = refl
+      go true dst true = rw (lt-leb (place + 2) (length frame) (omega arith))
+      go false true true = rw (lt-leb (begin + 2) (length frame) k)
+      go false false true = refl
+
+  -- the destination's was read; the source's own, if it stands, has not arrived
+  inherited : (own dst : Bool) (mode : AddressingMode) (begin place : ℕ) {p : PanId} → begin ≤ length frame → panIdFound frame begin (panIdLength dst) ≡ PanIdFound.Is p → (own ≡ true → length frame < place + 2)
+      → inheritedPanId (panIdLength own) (addressLength mode) p ≡ srcPan own dst mode begin place
+  unfolding inheritedPanId panIdOf panIdLength addressLength present
+  inherited own dst mode begin place {p} h e k = rw (pan-is begin (panIdLength dst) e) (go own dst mode k (pan-there begin dst h e))
+    where
+      go : (own dst : Bool) (mode : AddressingMode) → (own ≡ true → length frame < place + 2) → begin + panIdLength dst ≤ length frame
+          → inheritedPanId (panIdLength own) (addressLength mode) (panIdOf frame begin (panIdLength dst)) ≡ srcPan own dst mode begin place
+      go own false Absent k l = refl
+      go own false Unknown k l = refl
+      go true false Short k l = rw (lt-leb (place + 2) (length frame) (k refl))
+      go true false Extended k l = rw (lt-leb (place + 2) (length frame) (k refl))
+      go false false Short k l = refl
+      go false false Extended k l = refl
+      go true true Absent k l = refl
+      go true true Unknown k l = refl
+      go true true Short k l = rw (lt-leb (place + 2) (length frame) (k refl))
+      go true true Extended k l = rw (lt-leb (place + 2) (length frame) (k refl))
+      go false true Absent k l = refl
+      go false true Unknown k l = refl
+      go false true Short k l = rw (le-leb (begin + 2) (length frame) l)
+      go false true Extended k l = rw (le-leb (begin + 2) (length frame) l)
+
+  -- both were read
+  own-or-inherited : (own dst : Bool) (mode : AddressingMode) (begin place : ℕ) {p q : PanId} → (own ≡ true → present mode ≡ true) → begin ≤ length frame → place ≤ length frame
+      → panIdFound frame begin (panIdLength dst) ≡ PanIdFound.Is p → panIdFound frame place (panIdLength own) ≡ PanIdFound.Is q
+      → srcPanIdFrom (inheritedPanId (panIdLength own) (addressLength mode) p) q ≡ srcPan own dst mode begin place
+  unfolding srcPanIdFrom panIdLength panIdOf
+  own-or-inherited true dst mode begin place s h i e f =
+      let k = pan-there place true i f in
+      rw (pan-is place 2 f, s refl, le-leb (place + 2) (length frame) k)
+  own-or-inherited false dst mode begin place s h i e f =
+      rw (pan-is place 0 f) (inherited false dst mode begin place h e (λ z. let y : _≡_ {A = ℕ} 0 1 = cc in omega arith))
+
+-- The reader's steps in their order, each on the bytes from where the fields begin: what the facts so far are where the reading ends.
+module _ (frame : List ℕ) (fc : FrameControl) (n : SeqNrFact) where
+  abbrev mode : AddressingMode
+  mode = fc .«src_addressing_mode»
+
+  abbrev begin : ℕ
+  begin = addressingBegin fc
+
+  -- where an address byte is missing, addressing and its end are missing too
+  gap : {pan : SrcPanIdFact} {address : AddressFact} → length frame < headerLength fc → pan ≡ srcPanIdFact frame fc → address ≡ srcAddressFact frame fc → beforeGap fc n pan address ≡ numberedInfo frame fc n
+  unfolding addressingFact addressingEndFact
+  gap k e f = rw (e, f, lt-leb (headerLength fc) (length frame) k)
+
+  pub early-gap : length frame < begin + 2 → length frame < srcAddressBegin fc → beforeGap fc n SrcPanIdFact.Missing (unreadAddress mode) ≡ numberedInfo frame fc n
+  unfolding srcPanIdFact
+  early-gap k l = gap (omega arith) (no-pan-yet frame (panIdsOf fc .src) (panIdsOf fc .dst) mode begin (srcPanIdBegin fc) (omega arith) k) (unread frame (srcAddressBegin fc) mode (omega arith))
+
+  pub first-gap : panIdFound frame begin (lengthsOf fc .«dst_pan_id») ≡ PanIdFound.Missing → beforeGap fc n SrcPanIdFact.Missing (unreadAddress mode) ≡ numberedInfo frame fc n
+  unfolding lengthsOf panIdLength
+  first-gap e =
+      let k = pan-missing frame begin (panIdsOf fc .dst) e in
+      early-gap (k .1) (rw (k .0) (omega (arith, k .1)))
+
+  abbrev inheritedHere : PanId → SrcPanIdFact
+  inheritedHere p = inheritedPanId (lengthsOf fc .«src_pan_id») (lengthsOf fc .«src_address») p
+
+  inherited-here : {p : PanId} → begin ≤ length frame → panIdFound frame begin (lengthsOf fc .«dst_pan_id») ≡ PanIdFound.Is p → (panIdsOf fc .src ≡ true → length frame < srcPanIdBegin fc + 2) → inheritedHere p ≡ srcPanIdFact frame fc
+  unfolding srcPanIdFact lengthsOf
+  inherited-here h e k = inherited frame (panIdsOf fc .src) (panIdsOf fc .dst) mode begin (srcPanIdBegin fc) h e k
+
+  pub second-gap : {p : PanId} → begin ≤ length frame → panIdFound frame begin (lengthsOf fc .«dst_pan_id») ≡ PanIdFound.Is p → addressFact frame (dstAddressBegin fc) (fc .«dst_addressing_mode») ≡ AddressFact.Missing → beforeGap fc n (inheritedHere p) (unreadAddress mode) ≡ numberedInfo frame fc n
+  unfolding lengthsOf
+  second-gap h e f =
+      let k = address-missing frame (dstAddressBegin fc) (fc .«dst_addressing_mode») f in
+      gap (omega arith) (inherited-here h e (λ s. omega arith)) (unread frame (srcAddressBegin fc) mode (omega arith))
+
+  pub third-gap : {p : PanId} → begin ≤ length frame → panIdFound frame begin (lengthsOf fc .«dst_pan_id») ≡ PanIdFound.Is p → panIdFound frame (srcPanIdBegin fc) (lengthsOf fc .«src_pan_id») ≡ PanIdFound.Missing → beforeGap fc n (inheritedHere p) (unreadAddress mode) ≡ numberedInfo frame fc n
+  unfolding lengthsOf panIdLength
+  third-gap h e f =
+      let k = pan-missing frame (srcPanIdBegin fc) (panIdsOf fc .src) f in
+      let l : length frame < srcAddressBegin fc = rw (k .0) (omega (arith, k .1)) in
+      gap (omega arith) (inherited-here h e (λ s. k .1)) (unread frame (srcAddressBegin fc) mode (omega arith))
+
+  -- the places that have been passed
+  dst-passed : {p : PanId} → begin ≤ length frame → panIdFound frame begin (lengthsOf fc .«dst_pan_id») ≡ PanIdFound.Is p → dstAddressBegin fc ≤ length frame
+  unfolding lengthsOf
+  dst-passed h e = pan-there frame begin (panIdsOf fc .dst) h e
+
+  address-passed : {a : Address} → dstAddressBegin fc ≤ length frame → addressFact frame (dstAddressBegin fc) (fc .«dst_addressing_mode») ≡ AddressFact.Is a → srcPanIdBegin fc ≤ length frame
+  unfolding lengthsOf
+  address-passed h e = address-there frame (dstAddressBegin fc) (fc .«dst_addressing_mode») h e
+
+  src-passed : {q : PanId} → srcPanIdBegin fc ≤ length frame → panIdFound frame (srcPanIdBegin fc) (lengthsOf fc .«src_pan_id») ≡ PanIdFound.Is q → srcAddressBegin fc ≤ length frame
+  unfolding lengthsOf
+  src-passed h e = pan-there frame (srcPanIdBegin fc) (panIdsOf fc .src) h e
+
+  read-pan : {p q : PanId} → begin ≤ length frame → srcPanIdBegin fc ≤ length frame → panIdFound frame begin (lengthsOf fc .«dst_pan_id») ≡ PanIdFound.Is p → panIdFound frame (srcPanIdBegin fc) (lengthsOf fc .«src_pan_id») ≡ PanIdFound.Is q
+      → srcPanIdFrom (inheritedHere p) q ≡ srcPanIdFact frame fc
+  unfolding srcPanIdFact lengthsOf
+  read-pan h i e f = own-or-inherited frame (panIdsOf fc .src) (panIdsOf fc .dst) mode begin (srcPanIdBegin fc) (source-pan-needs-source fc) h i e f
+
+  module _ {p q : PanId} {a : Address} (h : begin ≤ length frame) (e1 : panIdFound frame begin (lengthsOf fc .«dst_pan_id») ≡ PanIdFound.Is p)
+      (e2 : addressFact frame (dstAddressBegin fc) (fc .«dst_addressing_mode») ≡ AddressFact.Is a)
+      (e3 : panIdFound frame (srcPanIdBegin fc) (lengthsOf fc .«src_pan_id») ≡ PanIdFound.Is q) where
+    before : srcPanIdBegin fc ≤ length frame
+    before = address-passed (dst-passed h e1) e2
+
+    pub fourth-gap : srcAddressFact frame fc ≡ AddressFact.Missing → beforeGap fc n (srcPanIdFrom (inheritedHere p) q) AddressFact.Missing ≡ numberedInfo frame fc n
+    unfolding lengthsOf
+    fourth-gap e4 = gap (address-missing frame (srcAddressBegin fc) mode e4) (read-pan h before e1 e3) (sym e4)
+
+    pub whole : {b : Address} → srcAddressFact frame fc ≡ AddressFact.Is b
+        → record {
+          «frame_control» = FrameControlFact.Is fc;
+          «seq_nr» = n;
+          «addressing_fields» = AddressingFact.Are (record { «dst_pan_id» = p; «dst_address» = a });
+          «src_pan_id» = srcPanIdFrom (inheritedHere p) q;
+          «src_address» = AddressFact.Is b;
+          «addressing_end» = AddressingEndFact.Is (headerLength fc);
+        } ≡ numberedInfo frame fc n
+    unfolding addressingFact addressingEndFact lengthsOf
+    whole e4 =
+        let k : headerLength fc ≤ length frame = address-there frame (srcAddressBegin fc) mode (src-passed before e3) e4 in
+        rw (read-pan h before e1 e3, pan-is frame begin (lengthsOf fc .«dst_pan_id») e1, address-is frame (dstAddressBegin fc) (fc .«dst_addressing_mode») e2, e4, le-leb (headerLength fc) (length frame) k)
+
+-- The same for the code's own names: `at` is where the fields begin, `l` the lengths that were told.
+module _ (frame : List ℕ) (fc : FrameControl) (n : SeqNrFact) {at : ℕ} {l : AddressingFieldsLengths} (begins : at ≡ addressingBegin fc) (told : l ≡ lengthsOf fc) (h : at ≤ length frame) where
   abbrev dstAt : ℕ
   dstAt = at + l .«dst_pan_id»
 
@@ -124,84 +289,52 @@ module _ (frame : List ℕ) (fc : FrameControl) (at : ℕ) (l : AddressingFields
   abbrev srcAt : ℕ
   srcAt = srcPanAt + l .«src_pan_id»
 
-  -- the lengths by what makes them
-  dst-pan : l .«dst_pan_id» ≡ panIdLength (panIdsOf fc .dst)
-  unfolding lengthsOf
-  dst-pan = rw told
+  pub ends-first : {u : AddressFact} {r : PreliminaryFrameInfo} → r ≡ beforeGap fc n SrcPanIdFact.Missing u → u ≡ unreadAddress (fc .«src_addressing_mode»)
+      → panIdFound frame at (l .«dst_pan_id») ≡ PanIdFound.Missing → r ≡ numberedInfo frame fc n
+  ends-first e f g = e ∙ rw f (first-gap frame fc n (rw (begins, told) at g))
 
-  dst-address : l .«dst_address» ≡ addressLength (fc .«dst_addressing_mode»)
-  unfolding lengthsOf
-  dst-address = rw told
+  module _ {p : PanId} {i : SrcPanIdFact} (e1 : panIdFound frame at (l .«dst_pan_id») ≡ PanIdFound.Is p) (i-is : i ≡ inheritedPanId (l .«src_pan_id») (l .«src_address») p) where
+    pub ends-second : {u : AddressFact} {r : PreliminaryFrameInfo} → r ≡ beforeGap fc n i u → u ≡ unreadAddress (fc .«src_addressing_mode»)
+        → addressFact frame dstAt (fc .«dst_addressing_mode») ≡ AddressFact.Missing → r ≡ numberedInfo frame fc n
+    ends-second e f g = e ∙ rw (f, i-is, told) (second-gap frame fc n (rw begins at h) (rw (begins, told) at e1) (rw (begins, told) at g))
 
-  src-pan : l .«src_pan_id» ≡ panIdLength (panIdsOf fc .src)
-  unfolding lengthsOf
-  src-pan = rw told
+    pub ends-third : {u : AddressFact} {r : PreliminaryFrameInfo} → r ≡ beforeGap fc n i u → u ≡ unreadAddress (fc .«src_addressing_mode»)
+        → panIdFound frame srcPanAt (l .«src_pan_id») ≡ PanIdFound.Missing → r ≡ numberedInfo frame fc n
+    ends-third e f g = e ∙ rw (f, i-is, told) (third-gap frame fc n (rw begins at h) (rw (begins, told) at e1) (rw (begins, told) at g))
 
-  src-address : l .«src_address» ≡ addressLength (fc .«src_addressing_mode»)
-  unfolding lengthsOf
-  src-address = rw told
+    module _ {a : Address} {q : PanId} {pan : SrcPanIdFact} (e2 : addressFact frame dstAt (fc .«dst_addressing_mode») ≡ AddressFact.Is a)
+        (e3 : panIdFound frame srcPanAt (l .«src_pan_id») ≡ PanIdFound.Is q) (pan-is-from : pan ≡ srcPanIdFrom i q) where
+      pub ends-fourth : {r : PreliminaryFrameInfo} → r ≡ beforeGap fc n pan AddressFact.Missing → addressFact frame srcAt (fc .«src_addressing_mode») ≡ AddressFact.Missing → r ≡ numberedInfo frame fc n
+      ends-fourth e g = e ∙ rw (pan-is-from, i-is, told) (fourth-gap frame fc n (rw begins at h) (rw (begins, told) at e1) (rw (begins, told) at e2) (rw (begins, told) at e3) (rw (begins, told) at g))
 
-  short-of : length frame < at + totalLength l → AddressingFact.Missing ≡ addressingFrom frame fc at
-  unfolding addressingFrom
-  short-of k = rw (← told, lt-leb _ _ k)
+      pub ends-whole : {b : Address} → addressFact frame srcAt (fc .«src_addressing_mode») ≡ AddressFact.Is b
+          → record {
+            «frame_control» = FrameControlFact.Is fc;
+            «seq_nr» = n;
+            «addressing_fields» = AddressingFact.Are (record { «dst_pan_id» = p; «dst_address» = a });
+            «src_pan_id» = pan;
+            «src_address» = AddressFact.Is b;
+            «addressing_end» = AddressingEndFact.Is (srcAt + l .«src_address»);
+          } ≡ numberedInfo frame fc n
+      ends-whole g = rw (pan-is-from, i-is, told, begins) (whole frame fc n (rw begins at h) (rw (begins, told) at e1) (rw (begins, told) at e2) (rw (begins, told) at e3) (rw (begins, told) at g))
 
-  pub first-gap : panIdFound frame at (l .«dst_pan_id») ≡ PanIdFound.Missing → AddressingFact.Missing ≡ addressingFrom frame fc at
-  unfolding totalLength
-  first-gap e = let k = pan-missing frame at _ (rw dst-pan at e) in short-of (omega (arith, dst-pan))
-
-  pub second-gap : addressFound frame dstAt (fc .«dst_addressing_mode») ≡ AddressFound.Missing → AddressingFact.Missing ≡ addressingFrom frame fc at
-  unfolding totalLength
-  second-gap e = let k = address-missing frame dstAt _ e in short-of (omega (arith, dst-address))
-
-  pub third-gap : panIdFound frame srcPanAt (l .«src_pan_id») ≡ PanIdFound.Missing → AddressingFact.Missing ≡ addressingFrom frame fc at
-  unfolding totalLength
-  third-gap e = let k = pan-missing frame srcPanAt _ (rw src-pan at e) in short-of (omega (arith, src-pan))
-
-  pub fourth-gap : addressFound frame srcAt (fc .«src_addressing_mode») ≡ AddressFound.Missing → AddressingFact.Missing ≡ addressingFrom frame fc at
-  unfolding totalLength
-  fourth-gap e = let k = address-missing frame srcAt _ e in short-of (omega (arith, src-address))
-
-  pub whole : {p q : PanId} {a b : Address} → at ≤ length frame → panIdFound frame at (l .«dst_pan_id») ≡ PanIdFound.Is p → addressFound frame dstAt (fc .«dst_addressing_mode») ≡ AddressFound.Is a → panIdFound frame srcPanAt (l .«src_pan_id») ≡ PanIdFound.Is q → addressFound frame srcAt (fc .«src_addressing_mode») ≡ AddressFound.Is b → AddressingFact.Are (record { «dst_pan_id» = p; «dst_address» = a }) ≡ addressingFrom frame fc at
-  unfolding addressingFrom totalLength
-  whole h e1 e2 e3 e4 =
-      let h1 : dstAt ≤ length frame = omega (arith, dst-pan, pan-there frame at _ h (rw dst-pan at e1)) in
-      let h2 : srcPanAt ≤ length frame = omega (arith, dst-address, address-there frame dstAt _ h1 e2) in
-      let h3 : srcAt ≤ length frame = omega (arith, src-pan, pan-there frame srcPanAt _ h2 (rw src-pan at e3)) in
-      let h4 : at + totalLength l ≤ length frame = omega (arith, src-address, address-there frame srcAt _ h3 e4) in
-      rw (pan-is frame at _ e1, address-is frame dstAt _ e2, ← told, le-leb _ _ h4)
-
--- The facts so far, at each place where the reading ends.
+-- The facts so far, at each place where the reading ends before the address fields.
 module _ (frame : List ℕ) {fc : FrameControl} (there : frameControlFact frame ≡ FrameControlFact.Is fc) where
-  -- the three facts together
-  gathered : {n : SeqNrFact} {a : AddressingFact} → n ≡ seqNrFact frame fc → a ≡ addressingFact frame fc → record { «frame_control» = FrameControlFact.Is fc; «seq_nr» = n; «addressing_fields» = a } ≡ infoOf frame
+  pub not-well-formed : wellFormed fc ≡ false → controlAlone (FrameControlFact.Is fc) ≡ infoOf frame
   unfolding infoOf afterControl
-  gathered e f = rw (there, e, f)
+  not-well-formed v = rw (there, v)
 
-  begins : (s : Bool) → fc .«sequence_number_suppression» ≡ s → addressingBegin fc ≡ cond s 2 3
-  unfolding addressingBegin
-  begins s e = rw e
+  pub numbered : {n : SeqNrFact} {r : PreliminaryFrameInfo} → wellFormed fc ≡ true → n ≡ seqNrFact frame fc → r ≡ numberedInfo frame fc n → r ≡ infoOf frame
+  unfolding infoOf afterControl
+  numbered v e f = rw (there, v, ← e) f
 
-  fields : (s : Bool) → wellFormed fc ≡ true → fc .«sequence_number_suppression» ≡ s → addressingFrom frame fc (cond s 2 3) ≡ addressingFact frame fc
-  unfolding addressingFact
-  fields s v e = rw (v, begins s e)
-
-  number : (s : Bool) → wellFormed fc ≡ true → fc .«sequence_number_suppression» ≡ s → cond s SeqNrFact.Missing (numberFound frame) ≡ seqNrFact frame fc
-  unfolding seqNrFact
-  number true v e = rw (v, e)
-  number false v e = rw (v, e)
-
-  pub not-well-formed : wellFormed fc ≡ false → record { «frame_control» = FrameControlFact.Is fc; «seq_nr» = SeqNrFact.Missing; «addressing_fields» = AddressingFact.Missing } ≡ infoOf frame
-  unfolding seqNrFact addressingFact
-  not-well-formed v = gathered (rw v) (rw v)
-
-  pub number-gap : wellFormed fc ≡ true → numberStep frame (fc .«sequence_number_suppression») ≡ NumberFound.Missing → record { «frame_control» = FrameControlFact.Is fc; «seq_nr» = SeqNrFact.Missing; «addressing_fields» = AddressingFact.Missing } ≡ infoOf frame
-  unfolding numberFound
+  pub number-gap : wellFormed fc ≡ true → numberStep frame (fc .«sequence_number_suppression») ≡ NumberFound.Missing → beforeGap fc SeqNrFact.Missing SrcPanIdFact.Missing (unreadAddress (fc .«src_addressing_mode»)) ≡ infoOf frame
+  unfolding seqNrFact addressingBegin
   number-gap v e =
       let g = number-missing frame _ e in
-      let n : SeqNrFact.Missing ≡ numberFound frame = rw (lt-leb 3 (length frame) (g .1)) in
-      gathered (n ∙ number false v (g .0)) (short-of frame fc 3 _ refl (omega arith) ∙ fields false v (g .0))
+      let k : length frame < addressingBegin fc = rw (g .0) (g .1) in
+      numbered v (rw (g .0, lt-leb 3 (length frame) (g .1))) (early-gap frame fc SeqNrFact.Missing (omega arith) (omega arith))
 
-  pub numbered : {n : SeqNrFact} {at : ℕ} {fact : AddressingFact} → wellFormed fc ≡ true → numberStep frame (fc .«sequence_number_suppression») ≡ NumberFound.Then n at → fact ≡ addressingFrom frame fc at → record { «frame_control» = FrameControlFact.Is fc; «seq_nr» = n; «addressing_fields» = fact } ≡ infoOf frame
-  numbered v e f =
-      let p = number-there frame _ (control-there frame there) e in
-      gathered (p .fact ∙ number _ v refl) (f ∙ ap (addressingFrom frame fc) (p .place) ∙ fields _ v refl)
+-- the lengths that were told are small
+pub bounded : (fc : FrameControl) {l : AddressingFieldsLengths} → l ≡ lengthsOf fc → Bounded l
+bounded fc told = rw told (lengths-bounded fc)

@@ -2,9 +2,12 @@
 use frame_control::AddressingMode;
 use frame_control::FrameControl;
 use header::Address;
+use header::AddressFact;
+use header::AddressingEndFact;
 use header::AddressingFact;
 use header::PanId;
 use header::SeqNrFact;
+use header::SrcPanIdFact;
 use phy::LatestAckStart;
 use radio_frame::RadioFrame;
 use radio_frame::Range;
@@ -135,6 +138,42 @@ pub fn dst_address(frame: &[u8]) -> u64 {
             address_number(a)
         }
         AddressingFact::Missing => MISSING,
+    }
+}
+
+pub fn src_pan_id(frame: &[u8]) -> u64 {
+    let info = header::preliminary_frame_info(frame);
+    let fact = info.src_pan_id;
+    match fact {
+        SrcPanIdFact::Is(id) => id as u64,
+        SrcPanIdFact::Missing => MISSING,
+    }
+}
+
+pub fn src_mode(frame: &[u8]) -> u64 {
+    let info = header::preliminary_frame_info(frame);
+    let fact = info.src_address;
+    match fact {
+        AddressFact::Is(a) => address_length(a),
+        AddressFact::Missing => MISSING,
+    }
+}
+
+pub fn src_address(frame: &[u8]) -> u64 {
+    let info = header::preliminary_frame_info(frame);
+    let fact = info.src_address;
+    match fact {
+        AddressFact::Is(a) => address_number(a),
+        AddressFact::Missing => MISSING,
+    }
+}
+
+pub fn addressing_end(frame: &[u8]) -> u64 {
+    let info = header::preliminary_frame_info(frame);
+    let fact = info.addressing_end;
+    match fact {
+        AddressingEndFact::Is(end) => end as u64,
+        AddressingEndFact::Missing => MISSING,
     }
 }
 

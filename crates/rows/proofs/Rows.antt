@@ -3,7 +3,7 @@
 use mathlib.Core.Path.{refl}
 use Rattle.frame_control.specs.FrameControl.{modeOf, fieldsOf, frameControlOf, reserved, wellFormed}
 use Rattle.addressing.specs.Addressing.{addressLength, present, extended, legacyPanIds, currentPanIds, panIdsOf, panIdLength, lengthsOf}
-use Rattle.header.specs.Header.{addressingBegin, totalLength, frameControlFact, addressingFrom, addressingFact, afterControl, infoOf}
+use Rattle.header.specs.Header.{addressingBegin, frameControlFact, addressingFact, afterControl, infoOf}
 use Rattle.ack.specs.Ack.{maskEFFF, threeBytes, acknowledges}
 use Rattle.phy.specs.Phy.{ifsOf, latestAckStartOf}
 use Rattle.radio_frame.specs.Settings.{poolUnfit, roomsUnfit, ownBuffersUnfit, settingsRefusal}
@@ -18,7 +18,7 @@ use Rattle.rows.specs.Rows.{Right, AllRight, EveryRow}
 
 pub every-row : EveryRow
 unfolding
-    AllRight Right infoOf afterControl frameControlFact addressingFact addressingFrom addressingBegin totalLength lengthsOf
+    AllRight Right infoOf afterControl frameControlFact addressingFact addressingBegin lengthsOf
     panIdLength panIdsOf currentPanIds legacyPanIds extended present addressLength frameControlOf fieldsOf modeOf reserved wellFormed
     stepOf moveOf waitMove settingsRefusal poolUnfit roomsUnfit ownBuffersUnfit guardedOf enteringOf enteredOf requestEntered arrivalOf
     leaveOf leaveReceivingAck ackReceived ackResponse answersOf receivedRefusal receivedUnfit frameStart acknowledges threeBytes maskEFFF

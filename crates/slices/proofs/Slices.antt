@@ -3,11 +3,12 @@
 use Prim.Native.Nat.{ℕ}
 use mathlib.Core.Path.{_≡_, refl, sym, _∙_, ap}
 use mathlib.Core.Bool.{Bool, true, false, cond}
-use mathlib.Core.List.{List, _++_, append-nil}
+use mathlib.Core.List.{List}
 use lib.Dec.{eqb}
-use lib.ListN.{length, take, drop}
-use lib.Seq.{take-length, drop-length}
+use lib.ListN.{length}
 use borrow.Author.Tests.{eq-eqb, eqb-true, ne-eqb}
+use Rattle.util.specs.Bytes.{storedOver}
+use Rattle.util.proofs.Stores.{over}
 use Rattle.engine.specs.declared.Outcome.{Outcome}
 use Rattle.state_bytes.specs.declared.Decoded.{Decoded}
 use Rattle.state_bytes.specs.Layout.{stateAt, writtenState}
@@ -15,27 +16,8 @@ use Rattle.state_bytes.specs.Valid.{holdsState, decodedOf, decodedRefusal, Deco
 use Rattle.state_bytes.proofs.Same.{and-left, and-right}
 use Rattle.reply_bytes.specs.Reply.{writtenReply}
 use Rattle.slices.specs.Slices.{slicesFit, formOk, ifAccepted}
-use Rattle.slices.specs.Inner.{readOf, ReadAs, storedOver, Finished}
+use Rattle.slices.specs.Inner.{readOf, ReadAs, Finished}
 use Rattle.slices.proofs.Lengths.{state-length, reply-length}
-
--- ---- Copies
-
--- a copy between slices of one length is the source
-copied : (s d : List ℕ) → length s ≡ length d → take (length s) s ++ drop (length s) d ≡ s
-copied s d e = rw (e, drop-length) (rw append-nil (rw (← e) (take-length s)))
-
-module _ (s d : List ℕ) where
-  pub store-done : (d′ : List ℕ) → length s ≡ length d → d′ ≡ take (length s) s ++ drop (length s) d → d′ ≡ storedOver s d
-  unfolding storedOver
-  store-done d′ e p = p ∙ copied s d e ∙ simp (eq-eqb _ _ e)
-
-  pub store-left : (length s ≡ length d → ⊥) → d ≡ storedOver s d
-  unfolding storedOver
-  store-left e = simp (ne-eqb _ _ e)
-
-  over : length s ≡ length d → storedOver s d ≡ s
-  unfolding storedOver
-  over e = simp (eq-eqb _ _ e)
 
 module _ (o : Outcome) (st re : List ℕ) where
   pub finished : (r : ℕ) (st′ re′ es er : List ℕ) → r ≡ o .refusal → o .refusal ≡ 0 → es ≡ writtenState (o .state) → er ≡ writtenReply (o .reply)

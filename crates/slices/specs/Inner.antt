@@ -4,13 +4,13 @@ use Prim.Native.Nat.{ℕ}
 use mathlib.Core.Path.{_≡_}
 use mathlib.Core.Bool.{cond}
 use mathlib.Core.List.{List}
-use lib.Dec.{eqb}
 use lib.ListN.{length}
 use Rattle.engine.specs.declared.Outcome.{Outcome}
 use Rattle.state_bytes.specs.declared.Decoded.{Decoded}
 use Rattle.state_bytes.specs.Layout.{writtenState}
 use Rattle.state_bytes.specs.Valid.{decodedOf, decodedRefusal}
 use Rattle.reply_bytes.specs.Reply.{writtenReply}
+use Rattle.util.specs.Bytes.{storedOver}
 use Rattle.slices.specs.Slices.{slicesFit, formOk, ifAccepted}
 
 -- the state that the slice holds, unless a length is wrong
@@ -21,10 +21,6 @@ readOf st reply = cond (slicesFit (length st) reply) (decodedOf st) Decoded.Inva
 pub record ReadAs (st : List ℕ) (reply : ℕ) (r : Decoded) : Type 0 where
   pub case : r ≡ readOf st reply
   pub refusal : decodedRefusal r ≡ cond (formOk st reply) 0 1
-
--- new bytes over old ones that are as many
-unfoldable pub storedOver : List ℕ → List ℕ → List ℕ
-storedOver new old = cond (eqb (length new) (length old)) new old
 
 -- what is written for an outcome
 pub record Finished (o : Outcome) (st re : List ℕ) (r : ℕ) (st′ re′ : List ℕ) : Type 0 where

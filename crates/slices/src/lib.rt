@@ -1,7 +1,7 @@
 // The state slice and the reply slice of an exported call: reading the state, writing what an accepted call leaves.
 ghost use mathlib.Core.Path.{_≡_};
 ghost use Rattle.slices.specs.Slices.{slicesFit};
-ghost use Rattle.slices.specs.Inner.{ReadAs, storedOver, Finished};
+ghost use Rattle.slices.specs.Inner.{ReadAs, Finished};
 use engine::Outcome;
 use state_bytes::Decoded;
 
@@ -22,15 +22,6 @@ pub fn read(state: &[u8], reply: usize) -> Decoded
     }
 }
 
-// Writes src over dst, where the two are as long.
-fn store(src: &[u8], dst: &mut [u8])
-    ensures { λ _. ⌜ now (dst .exit) ≡ storedOver (now (src .entry)) (now (dst .entry)) ⌝ }
-{
-    if src.len() == dst.len() {
-        bytes::copy(src, dst);
-    }
-}
-
 // Writes state and reply of an accepted outcome; returns its refusal.
 pub fn finish(o: Outcome, state: &mut [u8], reply: &mut [u8]) -> u8
     ensures { λ r. ⌜ Finished o (now (state .entry)) (now (reply .entry)) r (now (state .exit)) (now (reply .exit)) ⌝ }
@@ -41,8 +32,8 @@ pub fn finish(o: Outcome, state: &mut [u8], reply: &mut [u8]) -> u8
         let answer = o.reply;
         let new_state = state_bytes::encode(next);
         let new_reply = reply_bytes::encode(answer);
-        store(&new_state, state);
-        store(&new_reply, reply);
+        util::store(&new_state, state);
+        util::store(&new_reply, reply);
     }
     refusal
 }

@@ -1,15 +1,20 @@
 -- Flags as numbers, and numbers in bytes.
 -- Assumes nothing.
 use Prim.Native.Nat.{ℕ, zero, suc, _+_, _*_, _/_, _%_, _^_, _<_}
-use mathlib.Core.Bool.{Bool, true, false}
+use mathlib.Core.Bool.{Bool, true, false, cond}
 use mathlib.Core.Path.{_≡_}
 use mathlib.Core.List.{List, [], _∷_}
-use lib.ListN.{getD}
+use lib.Dec.{eqb}
+use lib.ListN.{length, getD}
 
 -- a flag as a number
 abbrev pub flagNumber : Bool → ℕ
 flagNumber true = 1
 flagNumber false = 0
+
+-- new bytes over old ones that are as many
+unfoldable pub storedOver : List ℕ → List ℕ → List ℕ
+storedOver new old = cond (eqb (length new) (length old)) new old
 
 -- "each low byte first": the number that stands in the n bytes from a place on
 unfoldable pub numberAt : List ℕ → ℕ → ℕ → ℕ

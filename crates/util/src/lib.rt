@@ -2,7 +2,7 @@
 ghost use mathlib.Core.Path.{_≡_};
 ghost use mathlib.Core.Bool.{_&&_, _||_};
 ghost use lib.ListN.{getD, set, take, drop};
-ghost use Rattle.util.specs.Bytes.{flagNumber, numberAt, bytesOf};
+ghost use Rattle.util.specs.Bytes.{flagNumber, storedOver, numberAt, bytesOf};
 
 pub fn both(a: bool, b: bool) -> bool
     ensures { λ r. ⌜ r ≡ (a && b) ⌝ }
@@ -36,6 +36,15 @@ pub fn put(s: &mut [u8], at: usize, v: u8)
 {
     if at < s.len() {
         s[at] = v;
+    }
+}
+
+// Writes src over dst, where the two are as long.
+pub fn store(src: &[u8], dst: &mut [u8])
+    ensures { λ _. ⌜ now (dst .exit) ≡ storedOver (now (src .entry)) (now (dst .entry)) ⌝ }
+{
+    if src.len() == dst.len() {
+        bytes::copy(src, dst);
     }
 }
 

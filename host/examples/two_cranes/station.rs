@@ -11,6 +11,23 @@ pub struct Weighing {
     pub number: u8,
 }
 
+/// What the plan has of a container: its mass, and the cell that the hub says weighed it.
+#[derive(Clone, Copy, Debug, PartialEq, Eq)]
+pub struct Weighed {
+    pub kilograms: u32,
+    pub by: Cell,
+}
+
+/// A cell as the header of its frame names it: its PAN and its address.
+#[derive(Clone, Copy, Debug, PartialEq, Eq)]
+pub struct Cell {
+    pub pan: u16,
+    pub address: Address,
+}
+
+/// By the container's name.
+pub type Plan = BTreeMap<String, Weighed>;
+
 /// What the host wants of the driver.
 #[derive(Clone, Copy, Debug, PartialEq, Eq)]
 pub enum Wanted {
@@ -89,6 +106,14 @@ impl Station {
         }
     }
 
+    /// As what the station's frames name it.
+    pub fn cell(&self) -> Cell {
+        Cell {
+            pan: self.pan,
+            address: Address::Short(self.driver.settings().hardware_addr as u16),
+        }
+    }
+
     /// Control 8861 (data, wants an ACK, one PAN, short addresses), number, PAN, hub, cell; then container and mass.
     fn frame_of(&self, weighing: &Weighing) -> Vec<u8> {
         let address = self.driver.settings().hardware_addr as u16;
@@ -137,7 +162,7 @@ impl Station {
     }
 
     /// Notes what arrived whole, if a weighing is still without its ACK.
-    pub fn overhear(&mut self, bytes: &[u8], plan: &BTreeMap<String, u32>) {
+    pub fn overhear(&mut self, bytes: &[u8], plan: &Plan) {
         let in_ack_wait = matches!(
             self.driver.wait(),
             Some(Wait::Entering(Transition::Request(Left::ReceivingAck, _)))

@@ -1,4 +1,5 @@
-//! Calls, actions and waits in words.
+//! Calls, actions, waits and cells in words.
+use crate::station::Cell;
 use widosha::*;
 
 pub fn hex(bytes: &[u8]) -> String {
@@ -8,6 +9,14 @@ pub fn hex(bytes: &[u8]) -> String {
 
 pub fn tonnes(kilograms: u32) -> String {
     format!("{}.{}", kilograms / 1000, kilograms % 1000 / 100)
+}
+
+pub fn cell(cell: &Cell) -> String {
+    match cell.address {
+        Address::Short(short) => format!("cell {short:04x} of PAN {:04x}", cell.pan),
+        Address::Extended(extended) => format!("cell {extended:016x} of PAN {:04x}", cell.pan),
+        Address::Absent => format!("a cell of PAN {:04x}", cell.pan),
+    }
 }
 
 pub fn call(call: &Call) -> String {

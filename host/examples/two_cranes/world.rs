@@ -1,6 +1,6 @@
 //! Time, the stations and what happens to them: the radios obey the actions, and their outcomes are the next calls.
 use crate::air::{Air, Who, BEFORE_BYTES, BYTE, MICROSECOND};
-use crate::station::{Phase, Station, Wanted, Weighing};
+use crate::station::{Cell, Phase, Plan, Station, Wanted, Weighed, Weighing};
 use crate::words;
 use std::collections::BTreeMap;
 use widosha::*;
@@ -9,7 +9,7 @@ use widosha::*;
 const TURNAROUND: u64 = 192 * MICROSECOND;
 /// A host sends again after this time.
 const BACK_OFF: u64 = 4_000 * MICROSECOND;
-/// Control, number, PAN and two short addresses.
+/// Control, number, PAN and two short addresses: what the radios let arrive before they report a header.
 const HEADER: u16 = 9;
 
 pub enum Event {
@@ -38,7 +38,7 @@ pub struct World {
     events: BTreeMap<(u64, u64), Event>,
     air: Air,
     pub stations: Vec<Station>,
-    pub plan: BTreeMap<String, u32>,
+    pub plan: Plan,
     pub answers: Vec<(Who, &'static str, Response)>,
     pub show: Show,
 }
@@ -52,7 +52,7 @@ impl World {
             events: BTreeMap::new(),
             air: Air::default(),
             stations,
-            plan: BTreeMap::new(),
+            plan: Plan::new(),
             answers: Vec::new(),
             show: Show::Nothing,
         }
@@ -316,22 +316,19 @@ impl World {
     fn answered(&mut self, i: usize, answer: Answer) {
         let wanted = self.stations[i].close(&answer);
         let who = self.stations[i].who;
-        match (wanted, answer.response) {
-            (Wanted::Send(weighing), response) => self.cell_host(i, weighing, response),
-            (Wanted::Receive, Response::Received(RxResult::Frame { length, .. })) => {
-                let frame = self.stations[i].driver.frame(answer.buffer).expect("the buffer is there");
-                let payload = &frame[usize::from(HEADER)..usize::from(length)];
-                let container = String::from_utf8_lossy(&payload[..2]).into_owned();
-                let mass = u32::from_le_bytes(payload[2..6].try_into().expect("four bytes"));
-                self.say(
-                    who.name(),
-                    &format!("to the plan: box {container} is {} t", words::tonnes(mass)),
-                );
-                self.plan.insert(container, mass);
-                self.stations[i].queue.push_back(Wanted::Receive);
+        match wanted {
+            Wanted::Send(weighing) => self.cell_host(i, weighing, answer.response),
+            Wanted::Receive => {
+                if let Some((container, weighed)) = self.stations[i].driver.received(&answer).map(read_weighing) {
+                    let (mass, cell) = (words::tonnes(weighed.kilograms), words::cell(&weighed.by));
+                    let text = format!("to the plan: box {container} is {mass} t, weighed by {cell}");
+                    self.say(who.name(), &text);
+                    self.plan.insert(container, weighed);
+                }
+                if matches!(who, Who::HubA | Who::HubB) {
+                    self.stations[i].queue.push_back(Wanted::Receive);
+                }
             }
-            (Wanted::Receive, _) if matches!(who, Who::HubA | Who::HubB) => self.stations[i].queue.push_back(Wanted::Receive),
-            (Wanted::Receive, _) => {}
         }
     }
 
@@ -354,4 +351,16 @@ impl World {
             self.put(self.now + BACK_OFF, Event::Queue(who, Wanted::Send(weighing)));
         }
     }
+}
+
+/// What a hub reads in a frame: the sender from its header, and container and mass from where the address fields end.
+fn read_weighing(received: Received) -> (String, Weighed) {
+    let by = Cell {
+        pan: received.info.src_pan_id.expect("a cell's frame has a PAN for its source"),
+        address: received.info.src_address.expect("a whole frame has its source"),
+    };
+    let payload = received.after_addressing().expect("a whole frame has its address fields");
+    let container = String::from_utf8_lossy(&payload[..2]).into_owned();
+    let kilograms = u32::from_le_bytes(payload[2..6].try_into().expect("four bytes"));
+    (container, Weighed { kilograms, by })
 }

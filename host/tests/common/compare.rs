@@ -1,5 +1,5 @@
 //! The library's slices beside the model's: each call is made on both, and everything is compared.
-use super::library::Slices;
+use super::library::{FrameSlices, Slices};
 use crate::model::calls::{Raw, RawStart};
 use crate::model::export;
 
@@ -28,6 +28,33 @@ fn difference(name: &str, library: &[u8], model: &[u8]) -> Option<String> {
     Some(format!(
         "{name}: {count} bytes differ, first byte {at}: library {left:02x}, model {right:02x}{bytes}"
     ))
+}
+
+/// What was returned, if the numbers are the same and no slice differs.
+fn agreed<const N: usize>(library: u8, model: u8, slices: [Option<String>; N]) -> Result<u8, String> {
+    let number = (library != model).then(|| format!("returned: library {library}, model {model}"));
+    let different: Vec<String> = number.into_iter().chain(slices.into_iter().flatten()).collect();
+    if different.is_empty() {
+        Ok(library)
+    } else {
+        Err(different.join("\n"))
+    }
+}
+
+/// The header reader on these slices, and in the model; a difference, also in the frame's bytes, ends the test. What it returned.
+pub fn must_read(slices: &mut FrameSlices) -> u8 {
+    let (frame, mut info) = (slices.frame.get().to_vec(), slices.info.get().to_vec());
+    let library = slices.read();
+    let model = export::preliminary_frame_info(&frame, &mut info);
+    assert!(
+        slices.intact(),
+        "a byte outside the two slices was written\nframe {frame:02x?}"
+    );
+    let different = [
+        difference("frame", slices.frame.get(), &frame),
+        difference("facts", slices.info.get(), &info),
+    ];
+    agreed(library, model, different).unwrap_or_else(|different| panic!("{different}\nframe {frame:02x?}"))
 }
 
 impl Pair {
@@ -105,18 +132,12 @@ impl Pair {
         if !self.library.intact() {
             return Err("a byte outside the three slices was written".to_string());
         }
-        let different = [
-            (library != model).then(|| format!("returned: library {library}, model {model}")),
+        let slices = [
             difference("state", self.library.state.get(), &self.state),
             difference("reply", self.library.reply.get(), &self.reply),
             difference("pool", self.library.pool.get(), &self.pool),
         ];
-        let different: Vec<String> = different.into_iter().flatten().collect();
-        if different.is_empty() {
-            Ok(library)
-        } else {
-            Err(different.join("\n"))
-        }
+        agreed(library, model, slices)
     }
 
     /// As `call`, where a difference ends the test.

@@ -1,4 +1,4 @@
-//! The library's functions on three slices, each between guard bytes.
+//! The library's functions on their slices, each slice between guard bytes.
 use crate::model::calls::{Raw, RawStart};
 use widosha::ffi;
 
@@ -162,5 +162,40 @@ impl Slices {
                 Raw::Rollback => ffi::widosha_rollback(s, sl, r, rl, p, pl),
             }
         }
+    }
+}
+
+/// Frame and facts: the slices of the header reader.
+#[derive(Clone, Debug)]
+pub struct FrameSlices {
+    pub frame: Guarded,
+    pub info: Guarded,
+    /// Whether a slice of length 0 is passed as a null pointer.
+    pub null_if_empty: bool,
+}
+
+impl FrameSlices {
+    pub fn new(frame: &[u8], info: &[u8]) -> FrameSlices {
+        FrameSlices {
+            frame: Guarded::new(frame),
+            info: Guarded::new(info),
+            null_if_empty: false,
+        }
+    }
+
+    pub fn intact(&self) -> bool {
+        self.frame.intact() && self.info.intact()
+    }
+
+    pub fn read(&mut self) -> u8 {
+        let (mut frame, mut info) = (self.frame.get().as_ptr(), self.info.get_mut().as_mut_ptr());
+        if self.null_if_empty && self.frame.len() == 0 {
+            frame = std::ptr::null();
+        }
+        if self.null_if_empty && self.info.len() == 0 {
+            info = std::ptr::null_mut();
+        }
+        // SAFETY: the pointers come from two separate vectors, with their lengths, or are null with length 0.
+        unsafe { ffi::widosha_preliminary_frame_info(frame, self.frame.len(), info, self.info.len()) }
     }
 }

@@ -1,10 +1,12 @@
-//! docs/LAYOUTS.md: the state's 64 bytes and the reply's 48.
+//! docs/LAYOUTS.md: the state's 64 bytes, the reply's 48 and the facts' 32.
 use super::calls::{Action, Answer, CameTo, Cause, Received, Reply, Start, Task};
 use super::engine::{Awaited, Left, Next, Rx, State, Tx, Wait};
+use super::header::{Address, Facts};
 use super::settings::{Settings, Spacing};
 
 pub const STATE: usize = 64;
 pub const REPLY: usize = 48;
+pub const INFO: usize = 32;
 
 fn put(bytes: &mut [u8], at: usize, low_byte_first: &[u8]) {
     bytes[at..at + low_byte_first.len()].copy_from_slice(low_byte_first);
@@ -334,5 +336,49 @@ pub fn write_reply(reply: &Reply) -> [u8; REPLY] {
             put_answer(&mut bytes, at, answer);
         }
     }
+    bytes
+}
+
+/// "0 omitted, 1 there", or "0 missing, 1 there"; then the PAN.
+fn put_pan(bytes: &mut [u8; INFO], at: usize, pan: Option<u16>) {
+    if let Some(pan) = pan {
+        bytes[at] = 1;
+        put(bytes, at + 1, &pan.to_le_bytes());
+    }
+}
+
+/// "0 absent, 2 short, 3 extended"; then "one number in eight bytes, so the upper six of a short one are 0".
+fn put_address(bytes: &mut [u8; INFO], at: usize, address: &Address) {
+    let (code, number) = match *address {
+        Address::Absent => (0, 0),
+        Address::Short(short) => (2, u64::from(short)),
+        Address::Extended(extended) => (3, extended),
+    };
+    bytes[at] = code;
+    put(bytes, at + 1, &number.to_le_bytes());
+}
+
+/// The facts as their 32 bytes. "All bytes of a missing fact are 0".
+pub fn write_info(facts: &Facts) -> [u8; INFO] {
+    let mut bytes = [0; INFO];
+    if let Some(control) = facts.control {
+        bytes[0] = 1;
+        put(&mut bytes, 1, &control.to_le_bytes());
+    }
+    if let Some(number) = facts.number {
+        put(&mut bytes, 3, &[1, number]);
+    }
+    if let Some(addressing) = &facts.addressing {
+        bytes[5] = 1;
+        put_pan(&mut bytes, 6, addressing.destination_pan);
+        put_address(&mut bytes, 9, &addressing.destination);
+    }
+    put_pan(&mut bytes, 18, facts.source_pan);
+    if let Some(source) = &facts.source {
+        bytes[21] = 1;
+        put_address(&mut bytes, 22, source);
+    }
+    // "0 missing, else 2 to 23"
+    bytes[31] = facts.end.map_or(0, |end| end as u8);
     bytes
 }

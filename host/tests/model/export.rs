@@ -1,8 +1,8 @@
-//! The exported form: numbers and three slices in, 0 or the number of a refusal out. "A refusal leaves all three slices byte for
-//! byte."
-use super::bytes::{read_state, write_reply, write_state, REPLY, STATE};
+//! The exported form: numbers and slices in, 0 or the number of a refusal out. "A refusal leaves all slices byte for byte."
+use super::bytes::{read_state, write_info, write_reply, write_state, INFO, REPLY, STATE};
 use super::calls::{Raw, RawStart};
 use super::engine::{self, Step};
+use super::header;
 use super::settings::Settings;
 
 fn finish(step: Step, state: &mut [u8], reply: &mut [u8]) -> u8 {
@@ -40,7 +40,7 @@ pub fn start(raw: &RawStart, state: &mut [u8], reply: &mut [u8], pool: &mut [u8]
     finish(engine::start(settings, pool), state, reply)
 }
 
-/// The other nine functions.
+/// The nine calls.
 pub fn call(raw: &Raw, state: &mut [u8], reply: &mut [u8], pool: &mut [u8]) -> u8 {
     if state.len() != STATE || reply.len() != REPLY {
         return 1;
@@ -52,4 +52,14 @@ pub fn call(raw: &Raw, state: &mut [u8], reply: &mut [u8], pool: &mut [u8]) -> u
     // "in the exported form also a code that stands for nothing"
     let Some(call) = raw.call() else { return 5 };
     finish(engine::step(&read, &call, pool), state, reply)
+}
+
+/// `widosha_preliminary_frame_info`.
+pub fn preliminary_frame_info(frame: &[u8], info: &mut [u8]) -> u8 {
+    // "1 where the facts' slice is not 32 bytes, and then writes nothing"
+    if info.len() != INFO {
+        return 1;
+    }
+    info.copy_from_slice(&write_info(&header::read(frame)));
+    0
 }

@@ -1,5 +1,6 @@
-//! Document 01, "Header facts": what the bytes of a frame's header say, and whether the frame is for us.
+//! Document 01, "Header facts", and document 02, E2: what the bytes of a frame's header say, and whether the frame is for us.
 use super::settings::Settings;
+use std::ops::Range;
 
 /// "Frame control is two bytes, low byte first."
 #[derive(Clone, Copy, Debug, PartialEq, Eq)]
@@ -72,13 +73,38 @@ impl Control {
         }
     }
 
+    /// "After the sequence number stand destination PAN, destination, source PAN, source"
+    pub fn fields(self) -> Fields {
+        let width = |mode: u16| [0, 0, 2, 8][usize::from(mode)];
+        let pans = self.pans();
+        let mut end = 2;
+        let mut next = |width: usize| {
+            end += width;
+            end - width..end
+        };
+        Fields {
+            number: next(usize::from(!self.suppressed())),
+            destination_pan: next(2 * usize::from(pans.0)),
+            destination: next(width(self.destination_mode())),
+            source_pan: next(2 * usize::from(pans.1)),
+            source: next(width(self.source_mode())),
+        }
+    }
+
     /// Header bytes "to the end of the addresses".
     pub fn header_length(self) -> usize {
-        let pans = self.pans();
-        let width = |mode: u16| [0, 0, 2, 8][usize::from(mode)];
-        let number = if self.suppressed() { 0 } else { 1 };
-        2 + number + 2 * usize::from(pans.0) + width(self.destination_mode()) + 2 * usize::from(pans.1) + width(self.source_mode())
+        self.fields().source.end
     }
+}
+
+/// Which bytes of the frame, counted from 0, each field has. One that control leaves out has none.
+#[derive(Clone, Debug, PartialEq, Eq)]
+pub struct Fields {
+    pub number: Range<usize>,
+    pub destination_pan: Range<usize>,
+    pub destination: Range<usize>,
+    pub source_pan: Range<usize>,
+    pub source: Range<usize>,
 }
 
 /// "Mode 0 none, 1 reserved, 2 short (2 bytes), 3 extended (8 bytes)."
@@ -89,80 +115,93 @@ pub enum Address {
     Extended(u64),
 }
 
+/// "addressing is one fact"
 #[derive(Clone, Copy, Debug, PartialEq, Eq)]
 pub struct Addressing {
     pub destination_pan: Option<u16>,
     pub destination: Address,
-    pub source_pan: Option<u16>,
-    pub source: Address,
 }
 
-/// "A fact whose bytes have not all arrived is missing".
+/// "A fact whose bytes have not all arrived is missing". E2: "The header reader shall also give source PAN, source address and the
+/// place where the address fields end, each missing when its bytes have not all arrived."
 #[derive(Clone, Copy, Debug, Default, PartialEq, Eq)]
 pub struct Facts {
     pub control: Option<u16>,
     pub number: Option<u8>,
     pub addressing: Option<Addressing>,
+    pub source_pan: Option<u16>,
+    pub source: Option<Address>,
+    /// Counted from the frame's first byte.
+    pub end: Option<usize>,
 }
 
-/// The bytes that have arrived, taken from the front.
+/// The bytes that have arrived.
 struct Arrived<'a>(&'a [u8]);
 
 impl Arrived<'_> {
-    /// The next `width` bytes as a number, "each low byte first".
-    fn number(&mut self, width: usize) -> Option<u64> {
-        if self.0.len() < width {
-            return None;
-        }
-        let (taken, rest) = self.0.split_at(width);
-        self.0 = rest;
-        Some(taken.iter().rev().fold(0, |sum, byte| (sum << 8) | u64::from(*byte)))
+    /// The bytes of a field as a number, "each low byte first". None if control leaves it out or its bytes have not all arrived.
+    fn number(&self, field: &Range<usize>) -> Option<u64> {
+        let bytes = self.0.get(field.clone()).filter(|bytes| !bytes.is_empty())?;
+        Some(bytes.iter().rev().fold(0, |sum, byte| (sum << 8) | u64::from(*byte)))
     }
 
-    fn pan(&mut self, present: bool) -> Option<Option<u16>> {
-        if present {
-            self.number(2).map(|pan| Some(pan as u16))
-        } else {
-            Some(None)
-        }
+    fn pan(&self, field: &Range<usize>) -> Option<u16> {
+        self.number(field).map(|pan| pan as u16)
     }
 
-    fn address(&mut self, mode: u16) -> Option<Address> {
-        match mode {
-            2 => self.number(2).map(|short| Address::Short(short as u16)),
-            3 => self.number(8).map(Address::Extended),
-            _ => Some(Address::Absent),
+    /// An absent address has no bytes that could be awaited.
+    fn address(&self, field: &Range<usize>) -> Option<Address> {
+        match field.len() {
+            0 => Some(Address::Absent),
+            2 => self.number(field).map(|short| Address::Short(short as u16)),
+            _ => self.number(field).map(Address::Extended),
         }
     }
 
-    /// "After the sequence number stand destination PAN, destination, source PAN, source"
-    fn addressing(&mut self, control: Control) -> Option<Addressing> {
-        let pans = control.pans();
+    /// "there when the sequence number, unless suppressed, and every PAN and address byte that control names have arrived"
+    fn addressing(&self, fields: &Fields) -> Option<Addressing> {
+        self.end(fields)?;
         Some(Addressing {
-            destination_pan: self.pan(pans.0)?,
-            destination: self.address(control.destination_mode())?,
-            source_pan: self.pan(pans.1)?,
-            source: self.address(control.source_mode())?,
+            destination_pan: self.pan(&fields.destination_pan),
+            destination: self.address(&fields.destination)?,
         })
+    }
+
+    /// "A source without its own PAN has the destination PAN, missing if that is left out too." No source, no PAN.
+    fn source_pan(&self, fields: &Fields) -> Option<u16> {
+        let has = |field: &Range<usize>| !field.is_empty();
+        match (has(&fields.source), has(&fields.source_pan)) {
+            (false, _) => None,
+            (true, true) => self.pan(&fields.source_pan),
+            (true, false) => self.pan(&fields.destination_pan),
+        }
+    }
+
+    /// "the place where the address fields end": its bytes are all before it.
+    fn end(&self, fields: &Fields) -> Option<usize> {
+        Some(fields.source.end).filter(|end| *end <= self.0.len())
     }
 }
 
 /// "Header reading that stops early answers with the facts before the gap."
 pub fn read(bytes: &[u8]) -> Facts {
     let mut facts = Facts::default();
-    let mut arrived = Arrived(bytes);
-    let Some(control) = arrived.number(2) else { return facts };
+    let arrived = Arrived(bytes);
+    let Some(control) = arrived.number(&(0..2)) else {
+        return facts;
+    };
     facts.control = Some(control as u16);
     let control = Control(control as u16);
     // "Control that is not well formed is the last fact given."
     if !control.well_formed() {
         return facts;
     }
-    if !control.suppressed() {
-        let Some(number) = arrived.number(1) else { return facts };
-        facts.number = Some(number as u8);
-    }
-    facts.addressing = arrived.addressing(control);
+    let fields = control.fields();
+    facts.number = arrived.number(&fields.number).map(|number| number as u8);
+    facts.addressing = arrived.addressing(&fields);
+    facts.source_pan = arrived.source_pan(&fields);
+    facts.source = arrived.address(&fields.source);
+    facts.end = arrived.end(&fields);
     facts
 }
 

@@ -1,5 +1,5 @@
-//! Stand-in for where the fields of an MPDU stand. The immediate acknowledgement has a frame control and a sequence number;
-//! what else fields/mpdu.rs names is there for the compiler and does nothing.
+//! Stand-in for where the fields of an MPDU stand: frame control, then the sequence number if there is one, then the addressing
+//! fields, as long as their representation says. What else fields/mpdu.rs names is there for the compiler and does nothing.
 
 use core::{marker::PhantomData, num::NonZero, ops::Range};
 
@@ -9,6 +9,8 @@ use crate::{repr::SeqNrRepr, MpduWithAddressing, MpduWithAllFields, MpduWithFram
 
 pub struct MpduFieldRanges<State> {
     offset: u8,
+    seq_nr: SeqNrRepr,
+    addressing_length: Option<u16>,
     state: PhantomData<State>,
 }
 
@@ -22,27 +24,35 @@ impl<State> MpduFieldRanges<State> {
     }
 
     pub fn try_range_addressing(&self) -> Option<Range<usize>> {
-        unimplemented!()
+        let begin = self.try_range_frame_control().end + self.seq_nr.length() as usize;
+        Some(begin..begin + self.addressing_length? as usize)
     }
 
     fn next<NextState>(self) -> MpduFieldRanges<NextState> {
         MpduFieldRanges {
             offset: self.offset,
+            seq_nr: self.seq_nr,
+            addressing_length: self.addressing_length,
             state: PhantomData,
         }
     }
 }
 
 impl MpduFieldRanges<MpduWithFrameControl> {
-    pub fn new(offset: u8, _seq_nr: SeqNrRepr) -> Self {
+    pub fn new(offset: u8, seq_nr: SeqNrRepr) -> Self {
         Self {
             offset,
+            seq_nr,
+            addressing_length: None,
             state: PhantomData,
         }
     }
 
-    pub fn with_addressing(self, _repr: AddressingRepr) -> MpduFieldRanges<MpduWithAddressing> {
-        unimplemented!()
+    pub fn with_addressing(self, repr: AddressingRepr) -> MpduFieldRanges<MpduWithAddressing> {
+        MpduFieldRanges {
+            addressing_length: Some(repr.addressing_fields_length()),
+            ..self.next()
+        }
     }
 
     pub fn without_addressing(self) -> MpduFieldRanges<MpduWithAddressing> {

@@ -11,35 +11,35 @@ Inv-loop tally₀ left₀ tally left = Unit
 abbrev μ-loop : tie.MeasureT-loop
 μ-loop tally₀ left₀ tally left = left
 
--- src/main.rt:161:5
+-- src/main.rt:165:5
 loop-holds : tie.Need-loop-holds Inv-loop μ-loop
 loop-holds c = search needs
 
--- src/main.rt:162:16
+-- src/main.rt:166:16
 sub-left : tie.Need-sub-left Inv-loop μ-loop
 sub-left c = search needs
 
--- src/main.rt:163:13
+-- src/main.rt:167:13
 next-line-requires : tie.Need-next-line-requires Inv-loop μ-loop
 next-line-requires c κs = search needs
 
--- src/main.rt:161:5
+-- src/main.rt:165:5
 loop-less : tie.Need-loop-less Inv-loop μ-loop
 loop-less c = search needs
 
--- src/main.rt:161:5
+-- src/main.rt:165:5
 loop-again : tie.Need-loop-again Inv-loop μ-loop
 loop-again c = search needs
 
--- src/main.rt:161:5
+-- src/main.rt:165:5
 loop-less-2 : tie.Need-loop-less-2 Inv-loop μ-loop
 loop-less-2 c = search needs
 
--- src/main.rt:161:5
+-- src/main.rt:165:5
 loop-again-2 : tie.Need-loop-again-2 Inv-loop μ-loop
 loop-again-2 c = search needs
 
--- src/main.rt:158:1
+-- src/main.rt:162:1
 returns : tie.Need-returns Inv-loop μ-loop
 returns c = search needs
 

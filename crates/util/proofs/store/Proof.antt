@@ -1,9 +1,9 @@
--- `slices::store` meets its contract.
+-- `util::store` meets its contract.
 -- Assumes nothing.
 use borrow.Author.Needs.{needs}
-use Rattle.slices.proofs.store.Statement.{statement}
-use Rattle.slices.proofs.store.Tie as tie
-use Rattle.slices.proofs.Slices.{store-done, store-left}
+use Rattle.util.proofs.store.Statement.{statement}
+use Rattle.util.proofs.store.Tie as tie
+use Rattle.util.proofs.Stores.{store-done, store-left}
 
 copy-requires : tie.Need-copy-requires
 copy-requires c κs = search needs

@@ -1,0 +1,3 @@
+pub mod Assembled
+pub mod ReadBack
+pub mod Called

@@ -64,6 +64,7 @@ uint8_t widosha_fallback(
 uint8_t widosha_rollback(
     uint8_t *state, size_t state_len, uint8_t *reply, size_t reply_len, uint8_t *pool, size_t pool_len);
 
+/* This one is in the library frame_c, those above are in driver_c. */
 uint8_t widosha_preliminary_frame_info(
     const uint8_t *frame, size_t frame_len, uint8_t *info, size_t info_len);
 

@@ -53,8 +53,8 @@ forUs hardware pan implicit info =
 
 -- Laws, proved in proofs/Laws.antt.
 
--- The filter looks at nothing but control and addressing. So no source fact changes its answer: two frames whose control and
--- addressing agree are both for us or both not, whatever their source PAN, source address, end of the address fields and sequence
+-- The filter looks at nothing but control and addressing. So no source fact changes its answer: of two records of facts that agree in
+-- control and addressing both are for us or both are not, whatever source PAN, source address, end of the address fields and sequence
 -- number are, there or missing.
 abbrev pub OnlyControlAndAddressing : Type 0
 OnlyControlAndAddressing =

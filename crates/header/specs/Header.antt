@@ -149,7 +149,7 @@ afterControl frame (FrameControlFact.Is fc) =
 unfoldable pub infoOf : List ℕ → PreliminaryFrameInfo
 infoOf frame = afterControl frame (frameControlFact frame)
 
--- ---- Laws, proved in proofs/Laws.antt.
+-- ---- Laws, proved in proofs/Laws.antt and proofs/FieldsInOrder.antt.
 
 -- a header, to the end of its addresses, has 2 to 23 bytes, well formed or not
 abbrev pub HeaderLengthBounded : Type 0

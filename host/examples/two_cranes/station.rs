@@ -106,7 +106,7 @@ impl Station {
         }
     }
 
-    /// As what the station's frames name it.
+    /// The cell as its frames name it.
     pub fn cell(&self) -> Cell {
         Cell {
             pan: self.pan,

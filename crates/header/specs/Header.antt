@@ -88,9 +88,9 @@ addressingFact frame fc =
 abbrev pub panIdBytes : List ℕ → ℕ → SrcPanIdFact
 panIdBytes frame at = cond (arrived frame (at + 2)) (SrcPanIdFact.Is (numberAt frame at 2)) SrcPanIdFact.Missing
 
--- "Source PAN: its own two bytes where control has them. Where control leaves it out, a source has the destination PAN: there as soon
--- as that PAN's two bytes have arrived, and missing if the destination PAN is left out too. A frame without a source address has no
--- source PAN." The last sentence stands first here.
+-- E2: "source PAN, .. missing when its bytes have not all arrived. A source without its own PAN has the destination PAN, missing if that
+-- is left out too." A frame without a source address has no source PAN; that stands first here. Then its own two bytes, where control
+-- has them; where control leaves them out, those of the destination PAN, as soon as they have arrived.
 unfoldable pub srcPanIdFact : List ℕ → FrameControl → SrcPanIdFact
 srcPanIdFact frame fc =
     cond (present (fc .«src_addressing_mode»))
@@ -106,11 +106,11 @@ addressFact frame at Unknown = AddressFact.Is Address.Absent
 addressFact frame at Short = cond (arrived frame (at + 2)) (AddressFact.Is (addressOf frame at Short)) AddressFact.Missing
 addressFact frame at Extended = cond (arrived frame (at + 8)) (AddressFact.Is (addressOf frame at Extended)) AddressFact.Missing
 
--- "Source address: absent, short or extended, there when its own bytes have all arrived."
+-- E2: "source address .., missing when its bytes have not all arrived"
 abbrev pub srcAddressFact : List ℕ → FrameControl → AddressFact
 srcAddressFact frame fc = addressFact frame (srcAddressBegin fc) (fc .«src_addressing_mode»)
 
--- "Where the address fields end: counted from the frame's first byte, there when every byte before it has arrived."
+-- E2: "the place where the address fields end", counted from the frame's first byte, missing until every byte before it has arrived
 unfoldable pub addressingEndFact : List ℕ → FrameControl → AddressingEndFact
 addressingEndFact frame fc = cond (arrived frame (headerLength fc)) (AddressingEndFact.Is (headerLength fc)) AddressingEndFact.Missing
 

@@ -69,7 +69,7 @@ CALLS = [
     ("1210,790 1340,790 1340,633", (1214, 784), "Stopped: frame started"),
     ("1210,812 1486,812 1486,16 930,16 930,94", (1216, 827), "Stopped: window ended"),
     ("1215,605 1130,605", (1142, 583), "Header:|not for us"),
-    ("1300,577 1300,493", (1307, 525), "Header: for us,|request bit and|sequence number"),
+    ("1300,577 1300,493", (1307, 519), "Header: for us,|request bit and|number, not a|broadcast"),
     ("1385,605 1466,605 1466,36 1120,36 1120,94", (1390, 599), "Header: else"),
     ("990,605 930,605 930,677", (937, 599), "Entered"),
     ("1215,465 895,465 895,677", (1150, 459), "Rollback"),

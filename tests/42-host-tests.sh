@@ -1,5 +1,5 @@
 #!/bin/sh
-# The host's tests: the exported library against an independent model of document 01, through C. Prints the counts.
+# The host's tests: the exported library against an independent model of documents 01 and 02, through C. Prints the counts.
 # Exit 0 passed, 77 not run (the reason is printed), anything else failed.
 set -u
 cd "$(dirname "$0")/.." || exit 1

@@ -71,7 +71,7 @@
 //! hub.request(Request { token: 5, start: Timestamp::BestEffort, buffer: 2, task: Task::Rx })?;
 //! hub.entered(TaskResult::Off, 0)?;
 //!
-//! // A frame starts, and its header is for the hub, which is to send an ACK once the frame is there.
+//! // A frame starts, and its header is for the hub, which is to send an ACK once the frame is there. For a broadcast it would not.
 //! hub.frame_start()?;
 //! hub.stopped(StopResult::FrameStarted)?;
 //! hub.put_frame(2, &frame);

@@ -87,6 +87,9 @@ impl<const N: usize> DriverService<N> {
     }
 
     /// So many bytes of the frame that is being received have arrived in the listening buffer; its length is with checksum.
+    ///
+    /// A frame for us that requests an acknowledgement and has a number leads to an ACK turn. A broadcast (to the short address FFFF,
+    /// or without a destination) never does: it is received as a frame that requests none.
     pub fn header(&mut self, arrived: u16, length: u16) -> Result<Reply, Refusal> {
         self.call(|slices| raw::header(arrived, length, slices))
     }

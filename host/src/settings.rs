@@ -36,9 +36,9 @@ pub struct Settings {
     pub hardware_addr: u64,
     /// Our PAN.
     pub pan_id: u16,
-    /// Whether a frame without destination is for us.
+    /// Whether a frame without destination is for us: a broadcast, which is never acknowledged.
     pub implicit_broadcast: bool,
-    /// The buffer of the ACK that the service sends.
+    /// The buffer of the ACK that the service sends for a frame that requests one, unless that is a broadcast.
     pub ack_buffer: u8,
     /// The service's other own buffer. It changes: a frame that is not for us exchanges it for the buffer of the receive request.
     pub spare_buffer: u8,

@@ -649,11 +649,10 @@ fn header_length_rows() {
     }
 }
 
-/// "A broadcast that requests an ACK gets one", and the bytes that are or aren't ours.
+/// The bytes that are or aren't ours, with and without implicit broadcast.
 #[test]
 fn for_us_rows() {
-    let rows: [(&[u8], u8, u8); 10] = [
-        (&[0x61, 0x88, 5, 0xff, 0xff, 0xff, 0xff, 1, 1], 0, 9),
+    let rows: [(&[u8], u8, u8); 9] = [
         (&[0x41, 0x88, 5, 0xcd, 0xab, 0xff, 0xff, 1, 1], 0, 2),
         (&[0x41, 0x88, 5, 0xcc, 0xab, 0xff, 0xff, 1, 1], 0, 10),
         (&[0x41, 0x88, 5, 0xcd, 0xab, 0x77, 0x88, 1, 1], 0, 10),
@@ -672,6 +671,188 @@ fn for_us_rows() {
         put(&mut run, 2, bytes);
         let reply = calls(&mut run, &[Raw::header(9, 30)]);
         assert_eq!(reply[0], action, "{bytes:02x?}, implicit broadcast {implicit_broadcast}");
+    }
+}
+
+/// What Header makes of a frame.
+#[derive(Clone, Copy, Debug, PartialEq, Eq)]
+enum Becomes {
+    /// "write it in the ACK frame, send it, rollback on"
+    AckTurn,
+    /// "Else ask, any direction."
+    Received,
+    /// "not for us, re-arm with the spare buffer and no spacing"
+    NotForUs,
+}
+use Becomes::{AckTurn, NotForUs, Received};
+
+impl Becomes {
+    /// The action's first four bytes, all others being 0, and the wait.
+    fn action_and_wait(self) -> ([u8; 4], [u8; 3]) {
+        match self {
+            AckTurn => ([9, ACK, 3, 1 << 3 | 2], [2, 1, 0]),
+            Received => ([2, 0, 0, 0], [0, 3, 0]),
+            NotForUs => ([10, SPARE, 0, 0], [2, 0, 0]),
+        }
+    }
+}
+
+/// Why it stands here; our hardware address and implicit broadcast; the frame's control and address fields; what becomes of it.
+struct Row(&'static str, u64, u8, u16, &'static [&'static [u8]], Becomes);
+
+/// Bytes 6 and 7 are those of the broadcast address.
+const ENDS_FF: u64 = 0x1122_3344_5566_ffff;
+const EIGHT_FF: u64 = u64::MAX;
+
+// The fields, low byte first. FFFF is a PAN or a short address.
+const OURS: &[u8] = &PAN.to_le_bytes();
+const OTHER: &[u8] = &[0xc0, 0x00];
+const FFFF: &[u8] = &[0xff, 0xff];
+const OWN: &[u8] = &[0x88, 0x77];
+const OWN_8: &[u8] = &HARDWARE.to_le_bytes();
+const ENDS_8: &[u8] = &ENDS_FF.to_le_bytes();
+const FF_8: &[u8] = &[0xff; 8];
+const FROM: &[u8] = &[0x01, 0x00];
+
+/// Control 8861: data, request bit, one PAN for two short addresses. In the first digit 8 is version 0 with a short source, 9 is
+/// version 1, a is version 2; 0, 1 and 2 are the same without a source. The second is 8 for a short destination, c for an extended
+/// one, 0 for none, and one more suppresses the number in version 2. The third has the request bit (2) and PAN compression (4).
+const BROADCAST_ROWS: &[Row] = &[
+    // An own address, the request bit and a number make an ACK turn, whatever implicit broadcast is.
+    Row("own short", HARDWARE, 0, 0x8861, &[OURS, OWN, FROM], AckTurn),
+    Row("own short, implicit on", HARDWARE, 1, 0x8861, &[OURS, OWN, FROM], AckTurn),
+    Row("own extended", HARDWARE, 0, 0x8c61, &[OURS, OWN_8, FROM], AckTurn),
+    Row("no request bit", HARDWARE, 0, 0x8841, &[OURS, OWN, FROM], Received),
+    Row("no number", HARDWARE, 0, 0xa961, &[OURS, OWN, FROM], Received),
+    Row("bit 8 in version 0", HARDWARE, 0, 0x8961, &[OURS, OWN, FROM], AckTurn),
+    // The address decides: PAN FFFF, or none, before our own address makes no broadcast.
+    Row("PAN FFFF, own short", HARDWARE, 0, 0x8861, &[FFFF, OWN, FROM], AckTurn),
+    Row("PAN FFFF, own extended", HARDWARE, 0, 0x8c61, &[FFFF, OWN_8, FROM], AckTurn),
+    Row("no PAN, own short", HARDWARE, 0, 0x2861, &[OWN], AckTurn),
+    Row("no PAN, own extended", HARDWARE, 0, 0x2c61, &[OWN_8], AckTurn),
+    // "a frame for us whose destination is short FFFF", in each version, with each PAN that is for us.
+    Row("FFFF in our PAN", HARDWARE, 0, 0x8861, &[OURS, FFFF, FROM], Received),
+    Row("FFFF in PAN FFFF", HARDWARE, 0, 0x8861, &[FFFF, FFFF, FROM], Received),
+    Row("FFFF in no PAN", HARDWARE, 0, 0x2861, &[FFFF], Received),
+    Row("FFFF, two PANs", HARDWARE, 0, 0x8821, &[FFFF, FFFF, OTHER, FROM], Received),
+    Row("FFFF, version 1", HARDWARE, 0, 0x9861, &[OURS, FFFF, FROM], Received),
+    Row("FFFF, version 2", HARDWARE, 0, 0xa861, &[OURS, FFFF, FROM], Received),
+    Row("FFFF, implicit on", HARDWARE, 1, 0x8861, &[OURS, FFFF, FROM], Received),
+    Row("FFFF, no request bit", HARDWARE, 0, 0x8841, &[OURS, FFFF, FROM], Received),
+    Row("FFFF, no number", HARDWARE, 0, 0xa961, &[OURS, FFFF, FROM], Received),
+    Row("FFFF in another PAN", HARDWARE, 0, 0x8861, &[OTHER, FFFF, FROM], NotForUs),
+    Row("FFFE", HARDWARE, 0, 0x8861, &[OURS, &[0xfe, 0xff], FROM], NotForUs),
+    // It is a broadcast whatever our hardware address is, and that address makes no other frame one.
+    Row("FFFF is our own", ENDS_FF, 0, 0x8861, &[OURS, FFFF, FROM], Received),
+    Row("PAN FFFF, FFFF is our own", ENDS_FF, 0, 0x8861, &[FFFF, FFFF, FROM], Received),
+    Row("own ends FF FF", ENDS_FF, 0, 0x8c61, &[OURS, ENDS_8, FROM], AckTurn),
+    Row("FFFF, own is eight FF", EIGHT_FF, 0, 0x8861, &[OURS, FFFF, FROM], Received),
+    // "or which passed by implicit broadcast", in each version; without it the frame is not for us.
+    Row("absent, version 0, on", HARDWARE, 1, 0x8021, &[OURS, FROM], Received),
+    Row("absent, version 1, on", HARDWARE, 1, 0x9021, &[OURS, FROM], Received),
+    Row("absent, version 2, on", HARDWARE, 1, 0xa021, &[OURS, FROM], Received),
+    Row("absent, version 0, off", HARDWARE, 0, 0x8021, &[OURS, FROM], NotForUs),
+    Row("absent, version 1, off", HARDWARE, 0, 0x9021, &[OURS, FROM], NotForUs),
+    Row("absent, version 2, off", HARDWARE, 0, 0xa021, &[OURS, FROM], NotForUs),
+    Row("no address, version 0, on", HARDWARE, 1, 0x0021, &[], Received),
+    Row("no address, version 1, on", HARDWARE, 1, 0x1021, &[], Received),
+    Row("no address, version 2, on", HARDWARE, 1, 0x2021, &[], Received),
+    Row("no address, version 0, off", HARDWARE, 0, 0x0021, &[], NotForUs),
+    Row("no address, version 1, off", HARDWARE, 0, 0x1021, &[], NotForUs),
+    Row("no address, version 2, off", HARDWARE, 0, 0x2021, &[], NotForUs),
+    Row("our PAN alone, on", HARDWARE, 1, 0x2061, &[OURS], Received),
+    Row("our PAN alone, off", HARDWARE, 0, 0x2061, &[OURS], NotForUs),
+    Row("PAN FFFF alone, on", HARDWARE, 1, 0x2061, &[FFFF], Received),
+    Row("another PAN alone, on", HARDWARE, 1, 0x2061, &[OTHER], NotForUs),
+    Row("absent, no request bit, on", HARDWARE, 1, 0x8001, &[OURS, FROM], Received),
+    Row("absent, no number, on", HARDWARE, 1, 0xa121, &[OURS, FROM], Received),
+    // An extended destination of eight FF bytes is no broadcast: it is for us if it is our hardware address, and then as any other.
+    Row("eight FF, ours", EIGHT_FF, 0, 0x8c61, &[OURS, FF_8, FROM], AckTurn),
+    Row("PAN FFFF, eight FF, ours", EIGHT_FF, 0, 0x8c61, &[FFFF, FF_8, FROM], AckTurn),
+    Row("eight FF, not ours", HARDWARE, 0, 0x8c61, &[OURS, FF_8, FROM], NotForUs),
+    Row("eight FF, implicit on", HARDWARE, 1, 0x8c61, &[OURS, FF_8, FROM], NotForUs),
+    Row("eight FF, own ends so", ENDS_FF, 0, 0x8c61, &[OURS, FF_8, FROM], NotForUs),
+];
+
+/// E4: "From now on a frame for us whose destination is short FFFF, or which passed by implicit broadcast, is received without an
+/// ACK turn."
+#[test]
+fn broadcasts_are_never_acknowledged() {
+    for row in BROADCAST_ROWS {
+        for length in [0, 18, 19, 65535] {
+            header_makes_of(row, length);
+        }
+    }
+    println!("boundaries: {} rows about broadcasts", BROADCAST_ROWS.len());
+}
+
+/// Number 5 and a row's fields after this control, by Header: the run, and the pool before the call.
+fn run_of(row: &Row, control: u16, length: u16) -> (Run, Vec<u8>) {
+    let Row(why, hardware_addr, implicit_broadcast, _, fields, _) = *row;
+    let mut run = reading_header(RawStart {
+        hardware_addr,
+        implicit_broadcast,
+        ..settings(2)
+    });
+    let mut bytes = control.to_le_bytes().to_vec();
+    if !Control(control).suppressed() {
+        bytes.push(5);
+    }
+    bytes.extend(fields.concat());
+    assert_eq!(Control(control).header_length(), bytes.len(), "{why}: a whole header");
+    put(&mut run, 2, &bytes);
+    // As an ACK turn for another frame left it.
+    put(&mut run, ACK, &[0x02, 0x10, 0xc9]);
+    let before = run.pair.pool().to_vec();
+    calls(&mut run, &[Raw::header(bytes.len() as u16, length)]);
+    (run, before)
+}
+
+/// Action, wait, pool and spacing are those of the row; a frame that is received is treated as one with bit 5 clear.
+fn header_makes_of(row: &Row, length: u16) {
+    let Row(why, _, _, control, _, becomes) = *row;
+    let (mut run, mut pool) = run_of(row, control, length);
+    let (action, wait) = becomes.action_and_wait();
+    assert_eq!(run.pair.reply()[..4], action, "{why}");
+    assert_eq!(run.pair.reply()[4..], [0; 44], "{why}: no time and no answer");
+    assert_eq!(run.codes(), wait, "{why}");
+    let frame = |buffer: u8| 144 * usize::from(buffer) + usize::from(HEADROOM);
+    // The number is the only byte that is written, and only for an ACK turn.
+    if becomes == AckTurn {
+        pool[frame(ACK) + 2] = 5;
+    }
+    assert_eq!(run.pair.pool(), pool, "{why}");
+    let spacing = if length <= 18 { 1 } else { 2 };
+    let kept = if becomes == NotForUs { 0 } else { spacing };
+    assert_eq!(run.pair.state()[36], kept, "{why}, length {length}");
+    if becomes != Received {
+        return;
+    }
+    let (unrequested, _) = run_of(row, control & !0x20, length);
+    assert_eq!(run.pair.state(), unrequested.pair.state(), "{why}");
+    assert_eq!(run.pair.reply(), unrequested.pair.reply(), "{why}");
+    let mut pool = unrequested.pair.pool().to_vec();
+    pool[frame(2)] = control as u8;
+    assert_eq!(run.pair.pool(), pool, "{why}");
+    let next = calls(&mut run, &[rx(10, 3)]);
+    assert_eq!(next[..4], [10, 3, 0, (1 + spacing) << 3], "{why}, length {length}");
+}
+
+/// Of a frame that is *sent*, bit 5 and the number decide as before, whatever its destination is: a broadcast awaits its ACK.
+#[test]
+fn sent_broadcasts_want_what_they_ask_for() {
+    let frames: [(&[u8], bool); 4] = [
+        (&[0x61, 0x88, 5, 0xff, 0xff, 0xff, 0xff, 1, 0], true),
+        (&[0x21, 0x80, 5, 0xcd, 0xab, 1, 0], true),
+        (&[0x41, 0x88, 5, 0xff, 0xff, 0xff, 0xff, 1, 0], false),
+        (&[0x61, 0xa9, 0xff, 0xff, 0xff, 0xff, 1, 0], false),
+    ];
+    for (bytes, wanted) in frames {
+        let mut run = open(settings(2));
+        put(&mut run, 2, bytes);
+        let entered = calls(&mut run, &[tx(70, 2, 20), entered_from_off()]);
+        let expected = if wanted { [10, SPARE, 0, 1 << 3] } else { [2, 0, 0, 0] };
+        assert_eq!(entered[..4], expected, "{bytes:02x?}");
     }
 }
 
@@ -694,8 +875,10 @@ fn which_frames_want_an_acknowledgement() {
     }
 }
 
-/// Bytes after the control in which each layout finds an address of ours, or only some do.
-fn tails() -> [(RawStart, Vec<u8>); 5] {
+/// Bytes after the control in which each layout finds an address of ours, or only some do; and how many of all controls before them
+/// lead to an ACK turn. That takes bit 5, a number and an own address. Each of 4 types, 3 source modes and versions 0 and 1 has 64
+/// such controls, bits 3, 4, 6, 7, 8 and 9 being free; in version 2, where bit 8 is clear, it is 32, and 16 if bit 6 is fixed.
+fn tails() -> [(RawStart, Vec<u8>, u32); 5] {
     let same = RawStart {
         hardware_addr: 0x5a5a_5a5a_5a5a_5a5a,
         pan_id: 0x5a5a,
@@ -707,12 +890,22 @@ fn tails() -> [(RawStart, Vec<u8>); 5] {
     let long = [&[7][..], &pan, &extended, &pan, &[1; 20]].concat();
     let bare = [&[7][..], &extended, &[1; 20]].concat();
     let everyone = [&[7][..], &[0xff; 24]].concat();
+    // Both destination modes, in every layout.
+    let turns_same = 2 * 4 * 3 * (2 * 64 + 32);
+    // A short destination after a PAN: in version 2 without a source only with bit 6 clear, else always.
+    let turns_short = 4 * 3 * 2 * 64 + 4 * (16 + 2 * 32);
+    // That, as the address begins with its lower bytes; and an extended one after a PAN: in version 2 with no source and with an
+    // extended one only with bit 6 clear.
+    let turns_long = turns_short + 4 * 3 * 2 * 64 + 4 * (16 + 32 + 16);
+    // No PAN: version 2 with bit 6 set, and no source with either destination, or both extended.
+    let turns_bare = 4 * (2 * 16 + 16);
     [
-        (same, vec![0x5a; 25]),
-        (usual, short),
-        (usual, long),
-        (usual, bare),
-        (usual, everyone),
+        (same, vec![0x5a; 25], turns_same),
+        (usual, short, turns_short),
+        (usual, long, turns_long),
+        (usual, bare, turns_bare),
+        // Short FFFF is a broadcast, and eight FF bytes are not our address.
+        (usual, everyone, 0),
     ]
 }
 
@@ -720,27 +913,33 @@ fn tails() -> [(RawStart, Vec<u8>); 5] {
 #[test]
 fn every_frame_control() {
     let mut made = 0;
-    for (start, tail) in tails() {
+    for (start, tail, turns) in tails() {
         for implicit_broadcast in [0, 1] {
             let mut run = reading_header(RawStart {
                 implicit_broadcast,
                 ..start
             });
             put(&mut run, 2, &tail);
-            let mut well_formed = 0;
+            let (mut well_formed, mut acknowledged) = (0, 0);
             for control in (0..=u16::MAX).step_by(stride()) {
                 let whole = Control(control).header_length() as u16;
                 for arrived in [125, whole, whole - 1] {
                     made += 1;
                     let action = header_of(&run, control, &tail, arrived);
                     well_formed += u32::from(arrived == 125 && action != 10);
+                    acknowledged += u32::from(arrived == 125 && action == 9);
                 }
+            }
+            if divisor().is_some() {
+                continue;
             }
             // With one byte everywhere and implicit broadcast on, all that are well formed are for us: 4 types, 3 versions, 3 modes
             // twice, and 7 bits that say nothing about it.
-            if tail[0] == 0x5a && implicit_broadcast == 1 && divisor().is_none() {
+            if tail[0] == 0x5a && implicit_broadcast == 1 {
                 assert_eq!(well_formed, 4 * 3 * 3 * 3 * 128);
             }
+            // The same with implicit broadcast on and off: what passes by it gets no ACK turn.
+            assert_eq!(acknowledged, turns, "{tail:02x?}");
         }
     }
     println!("boundaries: {made} headers");

@@ -3,12 +3,14 @@ mod common;
 mod model;
 
 use common::compare::must_read;
+use common::frames::{For, EVERY_FOR};
 use common::library::FrameSlices;
 use common::random::Rng;
 use common::{choose, divisor, frames, rounds, seed, stride};
 use model::calls::RawStart;
 use model::header::{self, Facts};
 use model::settings::Settings as ModelSettings;
+use std::collections::BTreeMap;
 use widosha::*;
 
 /// First and last byte of control, number, addressing, source PAN, source and end; the first one is 0 if the fact is missing.
@@ -302,6 +304,8 @@ struct Hub {
     settings: ModelSettings,
     /// The buffer that it listens with.
     buffer: u8,
+    /// Whether the last frame that it heard led to an ACK turn.
+    ack_turn: bool,
 }
 
 impl Hub {
@@ -338,6 +342,7 @@ impl Hub {
             service,
             settings,
             buffer,
+            ack_turn: false,
         }
     }
 
@@ -350,7 +355,9 @@ impl Hub {
         self.service.put_frame(self.buffer, frame);
         let result = TaskResult::Rx(RxResult::Frame { length, time: 7 });
         let header = self.service.header(length, length + u16::from(self.settings.fcs));
-        match header.expect("it reads the header").action {
+        let action = header.expect("it reads the header").action;
+        self.ack_turn = matches!(action, Action::Tx { .. });
+        match action {
             Action::Rx { buffer, .. } => self.buffer = buffer,
             Action::TryReceiveRequest(_) => assert!(self.service.none().is_ok()),
             _ => {}
@@ -399,4 +406,32 @@ fn received_frames() {
     println!(
         "facts: {received} received frames, {exchanged} in another buffer, {foreign} not for us, sources by kind: {sources:?}"
     );
+}
+
+/// E4 through the safe types: of the frames for us that request an ACK and have a number, a broadcast is received without an ACK
+/// turn.
+#[test]
+fn received_broadcasts() {
+    let mut rng = Rng::new(seed(36));
+    let mut reached: BTreeMap<For, u64> = BTreeMap::new();
+    for _ in 0..rounds(60_000) {
+        let mut hub = Hub::listening(&mut rng);
+        let frame = frames::header(&mut rng, &hub.settings);
+        let answer = hub.hear(&frame);
+        let whom = frames::requested(&hub.settings, &frame);
+        assert_eq!(hub.ack_turn, matches!(whom, Some(For::Us(_))), "{whom:?}: {frame:02x?}");
+        let Some(whom) = whom else { continue };
+        let length = frame.len() as u16;
+        let response = Response::Received(RxResult::Frame { length, time: 7 });
+        assert_eq!(answer.map(|answer| answer.response), Some(response), "{whom:?}: {frame:02x?}");
+        // "write it in the ACK frame": the number of a frame with an ACK turn, and of no other.
+        let number = if hub.ack_turn { frame[2] } else { 0 };
+        let acknowledgement = hub.service.frame(hub.settings.ack).map(|bytes| &bytes[..3]);
+        assert_eq!(acknowledgement, Some(&[0x02, 0x10, number][..]), "{whom:?}: {frame:02x?}");
+        *reached.entry(whom).or_default() += 1;
+    }
+    if divisor().is_none() {
+        assert_eq!(reached.keys().copied().collect::<Vec<_>>(), EVERY_FOR);
+    }
+    println!("facts: received frames that request an ACK and have a number: {reached:?}");
 }

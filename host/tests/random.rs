@@ -2,10 +2,12 @@
 mod common;
 mod model;
 
+use common::frames::{self, For, EVERY_FOR};
 use common::random::Rng;
 use common::run::{fail, Opening, Run};
 use common::{choose, compare::Pair, divisor, reached::every_wait, rounds, seed};
 use model::calls::{Raw, CALL_NAMES};
+use model::engine::Wait;
 use std::collections::BTreeMap;
 
 /// What has been reached, by count.
@@ -19,6 +21,7 @@ struct Coverage {
     waits: BTreeMap<[u8; 3], u64>,
     actions: BTreeMap<u8, u64>,
     answers: [BTreeMap<u8, u64>; 2],
+    requested: BTreeMap<For, u64>,
 }
 
 impl Coverage {
@@ -37,6 +40,23 @@ impl Coverage {
         for (place, at) in [12, 30].into_iter().enumerate() {
             *self.answers[place].entry(reply[at]).or_default() += 1;
         }
+        if let Raw::Header { arrived, .. } = raw {
+            self.count_requested(run, arrived);
+        }
+    }
+
+    /// Counts a header that was read, if it is for us, requests an ACK and has a number. Only one for us alone gets an ACK turn.
+    fn count_requested(&mut self, run: &Run, arrived: u16) {
+        let state = run.state();
+        let Some((_, buffer)) = state.wait.open()[0] else { return };
+        let frame = state.settings.frame(buffer);
+        let bytes = &run.pair.pool()[frame..frame + usize::from(arrived)];
+        let Some(whom) = frames::requested(&state.settings, bytes) else {
+            return;
+        };
+        let ack_turn = matches!(state.wait, Wait::AckTurn(..));
+        assert_eq!(ack_turn, matches!(whom, For::Us(_)), "{whom:?}: {bytes:02x?}");
+        *self.requested.entry(whom).or_default() += 1;
     }
 
     fn print(&self) {
@@ -57,6 +77,10 @@ impl Coverage {
         println!("  waits: {:?}", self.waits);
         println!("  actions: {:?}", self.actions);
         println!("  answers, first: {:?}, second: {:?}", self.answers[0], self.answers[1]);
+        println!(
+            "random: frames for us that request an ACK and have a number: {:?}",
+            self.requested
+        );
     }
 
     fn check(&self) {
@@ -85,6 +109,10 @@ impl Coverage {
             (0..=8).collect::<Vec<u8>>()
         );
         assert_eq!(self.answers[1].keys().copied().collect::<Vec<_>>(), [0, 3, 4, 5]);
+        for whom in EVERY_FOR {
+            let count = self.requested.get(&whom).copied().unwrap_or_default();
+            assert!(count >= 500, "{whom:?} was reached only {count} times");
+        }
     }
 }
 

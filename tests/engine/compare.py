@@ -4,9 +4,9 @@
 
 OURS is the program driver_replay, ORACLE the oracle of ../shared/oracle, LIST the file that lists the classes of differences
 (lines 'Engine class `NAME`', each followed by its smallest script). Ends with 0 only if every reply and every pool byte is the
-same in all three, or the difference is in a listed class, every listed class occurs, every call is made in every wait and every
-refusal 2 to 11 is met. The list's other scripts ('Engine unasked `NAME`', 'Engine script `NAME`') are run too: both sides must
-reply what is written there. With '-' for ORACLE the comparison is with the model alone.
+same in all three, or the difference is in a listed class, every listed class occurs, every call is made in every wait, every
+refusal 2 to 11 is met and so is every destination of walk.py. The list's other scripts ('Engine unasked `NAME`', 'Engine script
+`NAME`') are run too: both sides must reply what is written there. With '-' for ORACLE the comparison is with the model alone.
 """
 
 import collections
@@ -18,7 +18,7 @@ import time
 
 from model import WAITS
 from records import CALLS, KINDS, SILENT, ack_line, from_script, reply_of, to_line, to_record, to_script
-from walk import Walk
+from walk import DESTINATIONS, Walk
 
 CHUNK = 20000
 
@@ -68,7 +68,7 @@ def model_line(item):
 
 
 def records(items):
-    return "".join([to_record(item.call) for item in items])
+    return "".join([to_record(item.call) for item in items if item.ours])
 
 
 def script(items):
@@ -83,18 +83,19 @@ def script(items):
 def since_start(items, index):
     """The script from the last accepted start up to an item."""
     first = max([i for i in range(index + 1) if items[i].call[0] == "start" and items[i].reply[0] == 0], default=0)
-    return "\n".join("    " + to_script(item.call) for item in items[first:index + 1])
+    return "\n".join("    " + to_script(i.call) + ("" if i.ours else "   (the Rust alone)") for i in items[first:index + 1])
 
 
 class Tally:
     def __init__(self):
-        self.items = self.calls = self.asked = self.pool_bytes = self.starts = 0
+        self.items = self.calls = self.asked = self.alone = self.pool_bytes = self.starts = 0
         self.waits = collections.Counter()
         self.pairs = collections.Counter()
         self.accepted = collections.Counter()
         self.refusals = collections.Counter()
         self.unasked = collections.Counter()
         self.classes = collections.Counter()
+        self.destinations = collections.Counter()
 
 
 def rust_line(item, text):
@@ -107,10 +108,21 @@ def rust_line(item, text):
 
 def judge_rust(items, ours, theirs, tally):
     """Our lines against the oracle's."""
-    lines = iter(theirs)
-    pool = None
-    for index, (item, line) in enumerate(zip(items, ours)):
+    ours, lines = iter(ours), iter(theirs)
+    pool = last = None      # the pool that the oracle showed last, our line to the last call
+    for index, item in enumerate(items):
         what = item.call[0]
+        if what in SILENT:
+            continue
+        if not item.ours:
+            text = next(lines)
+            if rust_line(item, text) != (last if item.rust is None else to_line(KINDS[what], *item.rust)):
+                raise Wrong("the Rust alone says '%s', which is not expected, after\n%s" % (text, since_start(items, index)))
+            tally.alone += 1
+            continue
+        line = next(ours)
+        if what in CALLS:
+            last = line
         if what == "dump":
             if item.asked:
                 pool = bytes.fromhex(next(lines).split(" ", 1)[1])
@@ -126,20 +138,20 @@ def judge_rust(items, ours, theirs, tally):
             seen = bytes.fromhex(text.split(" ", 1)[1])
             at = item.reply[0]
             same = line == ack_line(seen, at)
-            expected = item.group is not None and ack_line(seen, at) == ack_line_of(item.rust)
+            expected = item.rust is not None and ack_line(seen, at) == ack_line_of(item.rust)
             tally.pool_bytes += 3
         else:
             theirs_line = rust_line(item, text)
             same = line == theirs_line
-            expected = item.group is not None and reply_of(text) == item.rust
+            expected = item.rust is not None and reply_of(text) == item.rust
             tally.asked += 1
-        if item.group is None and not same:
+        if item.rust is None and not same:
             raise Wrong("a difference in no class: the Rust says '%s', ours\n    %s after\n%s" % (
                 text, line, since_start(items, index)))
+        if item.rust is not None and (same or not expected):
+            raise Wrong("class %s: the Rust says '%s', which is not what its list says, after\n%s" % (
+                item.group or "of the call before", text, since_start(items, index)))
         if item.group is not None:
-            if same or not expected:
-                raise Wrong("class %s: the Rust says '%s', which is not what its list says, after\n%s" % (
-                    item.group, text, since_start(items, index)))
             tally.classes[item.group] += 1
     rest = list(lines)
     if len(rest) != 1:
@@ -152,8 +164,11 @@ def ack_line_of(seen):
 
 
 def judge_model(items, ours):
-    for index, (item, line) in enumerate(zip(items, ours)):
-        expected = model_line(item)
+    lines = iter(ours)
+    for index, item in enumerate(items):
+        if not item.ours or item.call[0] in SILENT:
+            continue
+        line, expected = next(lines), model_line(item)
         if line != expected:
             raise Wrong("ours is not what document 01's model says:\n    %s    %s after\n%s" % (
                 line, expected, since_start(items, index)))
@@ -168,6 +183,8 @@ def count(items, tally):
         tally.calls += 1
         refusal = item.reply[0]
         tally.refusals[refusal] += 1
+        if item.about is not None:
+            tally.destinations[item.about] += 1
         if not item.asked:
             tally.unasked[refusal] += 1
         if item.wait != "start":
@@ -180,16 +197,16 @@ def count(items, tally):
 def chunk(programs, seed, calls, tally, classes=True):
     walk = Walk(seed, classes)
     every = walk.run(calls)
-    printed = [item for item in every if item.call[0] not in SILENT]
+    printed = sum(item.ours and item.call[0] not in SILENT for item in every)
     out = run(programs[0], records(every))
     ours = out.splitlines(keepends=True)
-    if len(ours) != len(printed):
-        raise Wrong("ours printed %d lines, not %d" % (len(ours), len(printed)))
-    judge_model(printed, ours)
+    if len(ours) != printed:
+        raise Wrong("ours printed %d lines, not %d" % (len(ours), printed))
+    judge_model(every, ours)
     if programs[1]:
         theirs = run(programs[1], script(every)).splitlines()
-        judge_rust(printed, ours, theirs, tally)
-    tally.items += len(every)
+        judge_rust(every, ours, theirs, tally)
+    tally.items += sum(item.ours for item in every)
     count(every, tally)
 
 
@@ -238,6 +255,8 @@ def report(tally, seconds):
     print("refusals: " + ", ".join("%d: %d" % (k, v) for k, v in sorted(tally.refusals.items())))
     print("not asked of the Rust: " + ", ".join("%d: %d" % (k, v) for k, v in sorted(tally.unasked.items())))
     print("classes: " + ", ".join("%s: %d" % (k, v) for k, v in sorted(tally.classes.items())))
+    print("calls of the Rust alone: %d" % tally.alone)
+    print("destinations: " + ", ".join("%s: %d" % (k, tally.destinations[k]) for k in DESTINATIONS))
     print("%-16s %9s  %s" % ("wait", "reached", "  ".join("%10s" % c for c in CALLS)))
     for wait in WAITS:
         cells = ["%d/%d" % (tally.accepted[wait, c], tally.pairs[wait, c]) for c in CALLS]
@@ -249,8 +268,10 @@ def check_coverage(tally):
     few = [w for w in WAITS if tally.waits[w] * 2000 < tally.calls]
     never = [p for p in ((w, c) for w in WAITS for c in CALLS) if tally.pairs[p] == 0]
     unmet = [n for n in range(2, 12) if tally.refusals[n] == 0]
-    if few or never or unmet:
-        raise Wrong("waits hardly reached: %s; calls never made in a wait: %s; refusals never met: %s" % (few, never, unmet))
+    absent = [h for h in DESTINATIONS if tally.destinations[h] == 0]
+    if few or never or unmet or absent:
+        raise Wrong("waits hardly reached: %s; calls never made in a wait: %s; refusals never met: %s; "
+                    "destinations never met: %s" % (few, never, unmet, absent))
 
 
 def check_classes(tally, classes, path):

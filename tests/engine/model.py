@@ -1,6 +1,6 @@
-"""Document 01 as a plain model, one wait to a name: what a call does to it, with the number of the refusal.
+"""Document 01, with request E4, as a plain model, one wait to a name: what a call does to it, with the number of the refusal.
 
-Written from document 01's sentences (quoted in the comments). It shares nothing with the Rattle engine and its definitions.
+Written from the sentences of both (quoted in the comments). It shares nothing with the Rattle engine and its definitions.
 Held tokens and buffers are kept as the book of document 01 keeps them, not read off the wait.
 """
 
@@ -220,7 +220,7 @@ class Model:
             q.length = call[5]
             at = self.frame(q.buffer)
             control = self.pool[at] | self.pool[at + 1] << 8
-            # "A Tx frame wants an ACK if its control at acceptance has bit 5 and its number is not suppressed"
+            # "A Tx frame wants an ACK if its control at acceptance has bit 5 and its number is not suppressed", to whomever it goes
             if control >> 5 & 1:
                 if not suppressed(control):
                     q.number = self.pool[at + 2]
@@ -290,42 +290,56 @@ class Model:
         self.go("ask-ack" if how == "frame" else "ask-ack-window", *data)
         return ("ask", "any"), ()
 
-    def for_us(self, arrived):
-        """(for us, the number to acknowledge or None)"""
-        q = self.data[0]
-        at = self.frame(q.buffer)
+    def destination(self, buffer, arrived):
+        """(control, destination PAN or None, mode, address); None unless control is well formed and addressing is there."""
+        at = self.frame(buffer)
         bytes_ = self.pool[at:at + arrived]
         if arrived < 2:
-            return False, None
+            return None
         control = bytes_[0] | bytes_[1] << 8
         if not well_formed(control) or arrived < header_length(control):
-            return False, None
-        dst_pan, _ = pans(control)
-        place = 2 if suppressed(control) else 3
-        if dst_pan:
+            return None
+        pan, place = None, 2 if suppressed(control) else 3
+        if pans(control)[0]:
             pan = bytes_[place] | bytes_[place + 1] << 8
-            if pan not in (self.set[6], 0xFFFF):
-                return False, None
             place += 2
         mode = control >> 10 & 3
-        address = int.from_bytes(bytes_[place:place + SIZE[mode]], "little")
+        return control, pan, mode, int.from_bytes(bytes_[place:place + SIZE[mode]], "little")
+
+    def for_us(self, arrived):
+        """(for us, the number that comes with a request bit or None, a broadcast in the sense of E4)"""
+        buffer = self.data[0].buffer
+        facts = self.destination(buffer, arrived)
+        if facts is None:
+            return False, None, False
+        control, pan, mode, address = facts
         hardware = self.set[5]
-        if mode == 0:
+        if pan not in (None, self.set[6], 0xFFFF):
+            ours = False
+        elif mode == 0:
             ours = bool(self.set[7])
         elif mode == 2:
             ours = address == 0xFFFF or address == hardware & 0xFFFF
         else:
             ours = address == hardware
-        number = bytes_[2] if ours and control >> 5 & 1 and not suppressed(control) else None
-        return ours, number
+        if not ours:
+            return False, None, False
+        number = None
+        if control >> 5 & 1 and not suppressed(control):
+            number = self.pool[self.frame(buffer) + 2]
+        # The destination address decides, not its PAN: "short FFFF, or which passed by implicit broadcast" (E4).
+        return True, number, mode == 0 or mode == 2 and address == 0xFFFF
 
     def header(self, call):
         q = self.data[0]
-        ours, number = self.for_us(call[1])
+        ours, number, broadcast = self.for_us(call[1])
         if not ours:
             self.go("rearm", q)
             return ("rx", self.spare, None, "none", 0), ()
-        if number is None:
+        # Document 01: "For us with request bit and sequence number: write it in the ACK frame, send it, rollback on. Else ask, any
+        # direction." Request E4: "From now on a frame for us whose destination is short FFFF, or which passed by implicit
+        # broadcast, is received without an ACK turn."
+        if number is None or broadcast:
             self.go("ask-rx", q, self.spacing(call[2]))
             return ("ask", "any"), ()
         self.pool[self.frame(self.ack) + 2] = number

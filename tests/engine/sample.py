@@ -6,19 +6,23 @@
 
 Of a line of the rest, a refusal's number is the model's (the Rust has none), and so is the whole line where the Rust is not asked
 (refusals 2, 6, 7 and 8 of docs/DIFFERENCES.md, "Not asked of the Rust"). In the class damaged-ack-off the Rust's rollback flag is
-taken off. Everything else is the oracle's.
+taken off. At the Header call of a broadcast with request bit and number (request E4) the oracle's frame has bit 5 clear. Everything
+else is the oracle's.
 """
 
 import re
 import sys
 
-from compare import Wrong, run, rust_line, script
+from compare import Wrong, records, run, rust_line, script
 from model import WAITS
 from records import CALLS, KINDS, SILENT, ack_line, dump_line, from_record, from_script, reply_of, to_line, to_record
-from walk import Walk
+from walk import DESTINATIONS, Walk
 
 ROW = re.compile(r"^(  \d|[ \d]\d\d|   )  (?:(.*?) -> )?(.*?)(?:  # .*)?$")
 CALLS_OF_SAMPLE = 3000
+# What the sample must meet: each call in each wait, and the destinations around request E4. Rollback in ackrx-off makes the states
+# diverge; docs/WALK.md has it.
+DEMANDED = {(w, c) for w in WAITS for c in CALLS} - {("ackrx-off", "rollback")} | {("destination", d) for d in DESTINATIONS}
 
 
 def scripted(path):
@@ -52,15 +56,18 @@ def scripted(path):
     return calls, lines
 
 
+def met(items):
+    return {(item.wait, item.call[0]) for item in items} | {("destination", item.about) for item in items}
+
+
 def sampled():
     """Walks without diverging differences: first those that make many calls in waits where they were not made yet."""
     items, calls, index = [], 0, 0
-    # Rollback in ackrx-off makes the states diverge; docs/WALK.md has it.
-    missing = {(w, c) for w in WAITS for c in CALLS} - {("ackrx-off", "rollback")}
+    missing = set(DEMANDED)
     while calls < CALLS_OF_SAMPLE:
         walk = Walk("sample/%d" % index, classes=False)
         walk.segment(30)
-        new = missing & {(i.wait, i.call[0]) for i in walk.items}
+        new = missing & met(walk.items)
         if len(new) >= min(len(missing), max(1, 9 - index // 200)):
             missing -= new
             items += walk.items
@@ -71,7 +78,7 @@ def sampled():
 
 def noted(calls):
     """The items of given calls, such as the sample's."""
-    walk = Walk(0)
+    walk = Walk(0, classes=False)
     for call in calls:
         what = call[0]
         if what in SILENT:
@@ -86,8 +93,7 @@ def noted(calls):
             walk.put(call, reply=(walk.model.frame(walk.model.ack), None), asked=True)
         else:
             walk.note(call)
-    made = {(item.wait, item.call[0]) for item in walk.items}
-    return walk.items, walk.calls, {(w, c) for w in WAITS for c in CALLS} - {("ackrx-off", "rollback")} - made
+    return walk.items, walk.calls, DEMANDED - met(walk.items)
 
 
 def rust_lines(items, oracle):
@@ -124,14 +130,16 @@ def main():
         return 0 if same else 1
     if what == "make":
         items = sampled()
-        open(folder + "/stdin", "w").write(stdin + "".join([to_record(item.call) for item in items]))
+        open(folder + "/stdin", "w").write(stdin + records(items))
         open(folder + "/stdout", "w").write(stdout + "".join(rust_lines(items, sys.argv[3])))
     found = open(folder + "/stdin").read()
+    if not found.startswith(stdin):
+        raise Wrong("%s/stdin does not begin with docs/WALK.md" % folder)
     rest = found[len(stdin):].splitlines(keepends=True)
     items, made, missing = noted([from_record(text) for text in rest])
-    same = (found == stdin + "".join([to_record(item.call) for item in items])
+    same = (found == stdin + records(items)
             and open(folder + "/stdout").read() == stdout + "".join(rust_lines(items, sys.argv[3])))
-    print("%d calls of the sample, pairs of wait and call never made: %s; the files are %s" % (
+    print("%d calls of the sample; pairs of wait and call, and destinations, that are missing: %s; the files are %s" % (
         made, sorted(missing) or "none", "what the Rust says" if same else "NOT what the Rust says"))
     return 0 if same and not missing else 1
 

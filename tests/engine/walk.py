@@ -1,5 +1,6 @@
 """Random walks over the calls, seeded. A walk is a list of items that says what is called, what document 01's model replies,
-whether the oracle is asked too, and in which listed class of differences the Rust's reply is another one."""
+whether the oracle is asked too, in which listed class of differences the Rust's reply is another one, and what the oracle alone
+gets so that both sides go on from the same state."""
 
 import random
 
@@ -12,19 +13,30 @@ RX_LENGTHS = (0, 1, 2, 3, 4, 5, 123, 124, 125, 126, 127, 65535)
 FRAME_LENGTHS = (0, 1, 5, 17, 18, 19, 20, 127, 128, 65535)
 # Well formed controls: short and extended, both, one, none; with and without bit 6, the number suppressed, a version each.
 GOOD = tuple(c for c in range(65536) if well_formed(c) and not c & 0x0298)
+# The classes of request E4, by the destination's mode.
+BROADCASTS = {2: "broadcast-not-acknowledged", 0: "implicit-broadcast-not-acknowledged"}
+# Destinations around request E4 that a comparison must meet; with bit 5 and a number, unless the name says otherwise.
+DESTINATIONS = (
+    "FFFF", "FFFF, which is our short address", "none in version 0", "none in version 1", "none in version 2",
+    "FFFF without bit 5", "FFFF without a number", "none without bit 5", "none without a number",
+    "our short in PAN FFFF", "our extended in PAN FFFF", "eight FF, ours", "eight FF, not ours", "none, implicit broadcast off",
+    "FFFF, sent", "none, sent",
+)
 
 
 class Item:
     """One record: the call, the model's reply, the wait before it, and how the Rust is compared."""
-    __slots__ = ("call", "reply", "wait", "asked", "group", "rust")
+    __slots__ = ("call", "reply", "wait", "asked", "group", "rust", "ours", "about")
 
-    def __init__(self, call, reply=None, wait=None, asked=False, group=None, rust=None):
+    def __init__(self, call, reply=None, wait=None, asked=False, group=None, rust=None, ours=True, about=None):
         self.call = call
         self.reply = reply      # (refusal, action, answers), or the bytes that a dump shows
         self.wait = wait
-        self.asked = asked      # the oracle gets it too
+        self.asked = asked      # the oracle gets it
         self.group = group      # the class of a difference, or None
-        self.rust = rust        # what the Rust replies in that class
+        self.rust = rust        # what the Rust replies; None if it is our reply (to the last call, where ours gets none)
+        self.ours = ours        # our program gets it
+        self.about = about      # which of DESTINATIONS it is about, or None
 
 
 class Walk:
@@ -33,7 +45,7 @@ class Walk:
         self.model = Model()
         self.items = []
         self.calls = 0
-        self.classes = classes      # whether calls whose replies differ are made
+        self.classes = classes      # whether calls whose replies differ are made (the class damaged-ack-off is always there)
         self.over = False           # the two states are no longer the same
 
     # ---- choices
@@ -81,8 +93,8 @@ class Walk:
         n = r.choice((3, 4, 4, 5, 5, 6, 6, 8)) if self.chance(95) else r.choice((9, 31, 32))
         ack, spare = r.sample(range(n), 2)
         hardware = 0x0102030405060708 if self.chance(30) else r.getrandbits(64)
-        if self.chance(5):
-            hardware |= 0xFFFF
+        if self.chance(12):
+            hardware |= r.choice((0xFF, 0xFF00, 0xFFFF, TOP))
         pan = r.choice((0xABCD, 0xFFFF, 0)) if self.chance(60) else r.getrandbits(16)
         return ("start", n, r.randrange(9), r.randrange(9), r.choice((2, 4)), hardware, pan, r.randrange(2), ack, spare, 144 * n)
 
@@ -155,6 +167,8 @@ class Walk:
             control = r.getrandbits(16)
         if ours and not control & 0x0C00 and not implicit:
             control |= r.choice((0x0800, 0x0C00))
+        if ours and self.chance(50):
+            control |= 0x20
         data = bytearray(control.to_bytes(2, "little"))
         if not suppressed(control):
             data.append(r.getrandbits(8))
@@ -166,7 +180,7 @@ class Walk:
             if mode == 2:
                 data += r.choice((hardware & 0xFFFF, 0xFFFF)).to_bytes(2, "little")
             elif mode == 3:
-                data += hardware.to_bytes(8, "little")
+                data += (TOP if self.chance(8) else hardware).to_bytes(8, "little")
             data += r.getrandbits(80).to_bytes(10, "little")[:2 * src_pan + SIZE[control >> 14 & 3]]
         if not ours:
             for _ in range(r.randrange(1, 3)):
@@ -180,12 +194,14 @@ class Walk:
         if way < 0.30:
             control = 0x8841
         elif way < 0.36:
-            control = r.choice((0xA961, 0x2120))
+            control = r.choice((0xA961, 0x2120, 0x0020))
         elif way < 0.39:
             control = r.choice((0x8961, 0x0120, 0x1120, 0x3120, 0xB961))
         elif way < 0.44:
             control = r.getrandbits(16)
-        return control.to_bytes(2, "little") + bytes([r.getrandbits(8)])
+        m = self.model
+        pan, short = r.choice((m.set[6], 0xFFFF)), r.choice((m.set[5] & 0xFFFF, 0xFFFF))
+        return control.to_bytes(2, "little") + bytes([r.getrandbits(8)]) + pan.to_bytes(2, "little") + short.to_bytes(2, "little")
 
     def ack_bytes(self, number):
         """An acknowledgement of a number, or something close to one."""
@@ -349,23 +365,59 @@ class Walk:
             return "damaged-ack-off"
         if what == "rollback" and m.wait == "ackrx-off":
             return "damaged-ack-rollback"
-        if what == "header" and m.wait == "header" and call[1] > 127 - m.f:
-            return "header-arrived"
+        if what == "header" and m.wait == "header":
+            if call[1] > 127 - m.f:
+                return "header-arrived"
+            _, number, broadcast = m.for_us(call[1])
+            if broadcast and number is not None and not m.refusal(call):
+                return BROADCASTS[m.destination(m.data[0].buffer, call[1])[2]]
         if what == "entered" and m.wait.endswith("-tx") and m.wait != "ask-tx":
             q = m.data[1]
             if q.number is not None and q.number_in_rust is None and not m.refusal(call):
                 return "suppressed-number"
         return None
 
+    def destination(self, call):
+        """Which of DESTINATIONS an accepted call is about, or None."""
+        m = self.model
+        received = call[0] == "header"
+        if received:
+            facts = m.destination(m.data[0].buffer, call[1])
+        else:
+            facts = m.destination(call[4], call[5]) if call[0] == "request" and call[2] == "tx" else None
+        hardware, own_pan, implicit = m.set[5:8]
+        if facts is None or received and facts[1] not in (None, own_pan, 0xFFFF):
+            return None
+        control, pan, mode, address = facts
+        without = " without bit 5" if not control & 0x20 else " without a number" if suppressed(control) else ""
+        everyone = mode == 2 and address == 0xFFFF
+        if not received:
+            return None if without else "FFFF, sent" if everyone else "none, sent" if mode == 0 else None
+        if everyone:
+            return "FFFF" + (without or (", which is our short address" if hardware & 0xFFFF == 0xFFFF else ""))
+        if mode == 0 and implicit:
+            return "none" + (without or " in version %d" % (control >> 12 & 3))
+        if without:
+            return None
+        if mode == 0:
+            return "none, implicit broadcast off"
+        if mode == 3 and address == TOP:
+            return "eight FF, ours" if hardware == TOP else "eight FF, not ours"
+        if pan == 0xFFFF != own_pan and address == hardware & (0xFFFF if mode == 2 else TOP):
+            return "our short in PAN FFFF" if mode == 2 else "our extended in PAN FFFF"
+        return None
+
     def rust_reply(self, group, call, reply):
         m = self.model
+        if group in BROADCASTS.values():
+            return (0, ("tx", m.ack, 3, 0, None, "ack", 1), ())
         if group == "damaged-ack-off":
             return (0, ("off", 1), ())
         if group == "damaged-ack-rollback":
             return (0, ("listen",), ())
         if group == "suppressed-number":
             return (0, ("ask", "any"), reply[2])
-        ours, number = m.for_us(127 - m.f)
+        ours, number, _ = m.for_us(127 - m.f)
         if not ours:
             return (0, ("rx", m.spare, None, "none", 0), ())
         return (0, ("ask", "any") if number is None else ("tx", m.ack, 3, 0, None, "ack", 1), ())
@@ -378,30 +430,63 @@ class Walk:
         wait = m.wait
         group = self.difference(call)
         rust = self.rust_reply(group, call, None) if group == "header-arrived" else None
+        about = None if m.refusal(call) else self.destination(call)
         at = m.frame(m.ack)
         ack_before = bytes(m.pool[at:at + 3])
+        broadcast = group in BROADCASTS.values()
+        if broadcast and not self.classes:
+            # The Rust is asked what it does with the same frame without bit 5. Then the replies are the same.
+            group = None
+            self.rust_bit_5(0)
         reply = m.step(call)
         if group and rust is None:
             rust = self.rust_reply(group, call, reply)
-        self.put(call, reply=reply, wait=wait, asked=self.is_asked(call, reply[0]), group=group, rust=rust)
+        self.put(call, reply=reply, wait=wait, asked=self.is_asked(call, reply[0]), group=group, rust=rust, about=about)
         self.calls += 1
+        if broadcast:
+            if group:
+                self.bring_back(call, reply, at, ack_before)
+            self.rust_bit_5(1)
         return ack_before
+
+    def bring_back(self, call, reply, at, ack_before):
+        """The Rust has begun the ACK turn of a broadcast. Rollback takes it back to listening, its ACK frame is made what it was,
+        and on another frame start it gets the same frame without bit 5: then it must reply what is replied here."""
+        m = self.model
+        seen = bytes(ack_before)
+        if not ack_before[1] & 1:       # see the class ack-frame-written
+            seen = ack_before[:2] + bytes([m.pool[m.frame(m.data[0].buffer) + 2]])
+        self.dump_ack(None, None if seen == ack_before else (at, seen))
+        self.put(("pool", at, ack_before), asked=True, ours=False)
+        for alone, says in ((("rollback",), ("listen",)), (("framestart",), ("stop", "none")), (("stopped", "frame"), ("header",))):
+            self.put(alone, reply=reply, asked=True, ours=False, rust=(0, says, ()))
+        self.rust_bit_5(0)
+        self.put(call, reply=reply, asked=True, ours=False)
+
+    def rust_bit_5(self, bit):
+        """The oracle's frame in the listening buffer, and it alone, has bit 5 clear or as it was."""
+        place = self.model.frame(self.model.data[0].buffer)
+        byte = self.model.pool[place]
+        self.put(("pool", place, bytes([byte if bit else byte & 0xDF])), asked=True, ours=False)
 
     def make(self, call):
         m = self.model
         group = self.difference(call)
-        diverges = group not in (None, "damaged-ack-off")
+        broadcast = group in BROADCASTS.values()
+        diverges = group not in (None, "damaged-ack-off") and not broadcast
         if diverges and not self.classes:
             return
         ack_before = self.note(call)
         self.over = diverges
-        if diverges or self.items[-1].reply[0] or m.wait != "ack-turn":
+        if broadcast and not self.classes and self.chance(50):
+            self.dump_ack()
+        if diverges or broadcast or self.items[-1].reply[0] or m.wait != "ack-turn":
             return
         at = m.frame(m.ack)
         if ack_before[1] & 1:
             # "the ACK's number is then written only if bit 8 of the control that stands in the ACK buffer is clear"
             same = m.pool[at + 2] == ack_before[2]
-            self.dump_ack(None if same else "ack-frame-written", (at, ack_before))
+            self.dump_ack(*(None, None) if same else ("ack-frame-written", (at, ack_before)))
             self.over = not same
         elif self.chance(15):
             self.dump_ack()

@@ -55,7 +55,7 @@ use Rattle.entered.specs.Entered.{sendingMove, arrivalOf, requestEntered, rearm
 use Rattle.entering.specs.Entering.{thenError, requestFellBack, fellBackOf, offRolledBack, requestRolledBack, rolledBackOf, enteringOf}
 use Rattle.listening.specs.Listening.{stopBefore, listeningOf}
 use Rattle.stopping.specs.Stopping.{frameStopped, outboundStopped, ackFailed, ackStopped, stoppedOf, stoppingOf}
-use Rattle.reading.specs.Reading.{requested, rearmMove, receiveMove, headerMove, headerOf, readingOf}
+use Rattle.reading.specs.Reading.{requested, numberToAcknowledge, rearmMove, receiveMove, headerMove, headerOf, readingOf}
 use Rattle.engine.specs.Step.{waitMove, moveOf}
 use Rattle.engine.proofs.Kept.{stateAt}
 use Rattle.engine.proofs.Table.{moveTo, passed, neither}
@@ -420,7 +420,7 @@ module _ (set : Settings) (S : SettingsIn set) (pool : List ℕ) (A : AllBytes p
   reading-in q Call.FrameStart W = refuse (Wait.Reading q) W 5
   reading-in q (Call.OutboundSeen start cca) W = refuse (Wait.Reading q) W 5
   reading-in q (Call.Stopped r) W = refuse (Wait.Reading q) W 5
-  reading-in q (Call.Header arrived length) W = guard (Wait.Reading q) W _ _ (λ ok. go (forUs (set .«hardware_addr») (set .«pan_id») (set .«implicit_broadcast») facts) (requested (facts .«frame_control») (facts .«seq_nr»)))
+  reading-in q (Call.Header arrived length) W = guard (Wait.Reading q) W _ _ (λ ok. go (forUs (set .«hardware_addr») (set .«pan_id») (set .«implicit_broadcast») facts) (numberToAcknowledge (facts .«addressing_fields») (requested (facts .«frame_control») (facts .«seq_nr»))))
     where
       facts : PreliminaryFrameInfo
       facts = infoOf (take arrived (drop (frameStart set (q .buffer)) pool))

@@ -14,6 +14,7 @@ use Rattle.engine.specs.Step.{stepOf, stepPool, startOf, startPool}
 use Rattle.engine.specs.Refusals.{refusalOf, noReply}
 use Rattle.engine.specs.Reasons.{Reasons}
 use Rattle.engine.specs.Actions.{ActsRight}
+use Rattle.engine.specs.AckTurns.{AckTurns}
 use Rattle.engine.specs.Lists.{AlwaysSound}
 
 -- a call on a state and a pool, what it returns and the pool's bytes after it
@@ -30,6 +31,8 @@ pub record Stepped (s : State) (pool : List ℕ) (c : Call) (r : Outcome) (writt
   pub acts : r .refusal ≡ 0 → ActsRight c r
   -- each answer has its reason
   pub reasons : Reasons s pool c (r .reply .answers)
+  -- a received frame is acknowledged exactly where it is due: E4, a broadcast never
+  pub ack-turns : AckTurns s pool c r written
 
 -- a start
 pub record Started (set : Settings) (pool : List ℕ) (r : Outcome) (written : List ℕ) : Type 0 where

@@ -7,5 +7,6 @@ pub mod Table
 pub mod Refusals
 pub mod Reasons
 pub mod Actions
+pub mod AckTurns
 pub mod Sound
 pub mod History

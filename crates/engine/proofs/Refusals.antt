@@ -39,7 +39,7 @@ use Rattle.entered.specs.Entered.{sendingMove, arrivalOf, requestEntered, rearm
 use Rattle.entering.specs.Entering.{requestFellBack, fellBackOf, offRolledBack, requestRolledBack, rolledBackOf, enteringOf}
 use Rattle.listening.specs.Listening.{listeningOf}
 use Rattle.stopping.specs.Stopping.{frameStopped, outboundStopped, ackFailed, ackStopped, stoppedOf, stoppingOf}
-use Rattle.reading.specs.Reading.{requested, rearmMove, receiveMove, headerMove, arrivedRefusal, headerOf, readingOf}
+use Rattle.reading.specs.Reading.{requested, numberToAcknowledge, rearmMove, receiveMove, headerMove, arrivedRefusal, headerOf, readingOf}
 use Rattle.engine.specs.Step.{waitMove, moveOf, writtenBy, stepOf, stepPool}
 use Rattle.engine.specs.Refusals.{noneFits, resultFits, enteredFits, fallbackFits, goesOff, rollbackFits, stopFits, fits, resultUnfit, stopUnfit, beginsAckWait, notAllowedIn, laterRefusal, refusalOf, InOrder, Unchanged, RefusedUnchanged}
 use Rattle.engine.proofs.Kept.{stateAt}
@@ -173,7 +173,7 @@ module _ (set : Settings) (pool : List ℕ) where
 
   header-accepted : (q : RxTask) (info : PreliminaryFrameInfo) (len : ℕ) → headerMove set q info len .refusal ≡ 0
   unfolding headerMove receiveMove
-  header-accepted q info len = ours (forUs (set .«hardware_addr») (set .«pan_id») (set .«implicit_broadcast») info) (requested (info .«frame_control») (info .«seq_nr»))
+  header-accepted q info len = ours (forUs (set .«hardware_addr») (set .«pan_id») (set .«implicit_broadcast») info) (numberToAcknowledge (info .«addressing_fields») (requested (info .«frame_control») (info .«seq_nr»)))
     where
       ours : (t : Bool) (k : AckSeqNum) → (cond t (receiveMove set q (ifsOf len) k) (rearmMove set q)) .refusal ≡ 0
       ours true (AckSeqNum.Is k) = refl

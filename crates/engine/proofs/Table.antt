@@ -51,7 +51,7 @@ use Rattle.entered.specs.Entered.{sendingMove, arrivalOf, requestEntered, withS
 use Rattle.entering.specs.Entering.{thenError, requestFellBack, fellBackOf, offRolledBack, requestRolledBack, rolledBackOf, enteringOf}
 use Rattle.listening.specs.Listening.{listeningOf}
 use Rattle.stopping.specs.Stopping.{frameStopped, outboundStopped, ackFailed, ackStopped, stoppedOf, stoppingOf}
-use Rattle.reading.specs.Reading.{requested, rearmMove, receiveMove, headerMove, headerOf, readingOf}
+use Rattle.reading.specs.Reading.{requested, numberToAcknowledge, rearmMove, receiveMove, headerMove, headerOf, readingOf}
 use Rattle.engine.specs.Step.{waitMove, moveOf}
 use Rattle.engine.specs.Refusals.{goesOff, rollbackFits, fits}
 use Rattle.engine.specs.Book.{Progress, frameStarted, isNumber, Entry, Settled, Radio, Book, answersTransmit, enter}
@@ -640,7 +640,7 @@ module _ (set : Settings) (pool : List ℕ) where
   unfolding headerOf headerMove receiveMove fits rollbackFits
   header-legal q arrived length =
       guard-legal _ pool (Call.Header arrived length) _ _
-      (λ ok. ours (forUs (set .«hardware_addr») (set .«pan_id») (set .«implicit_broadcast») facts) (requested (facts .«frame_control») (facts .«seq_nr»)))
+      (λ ok. ours (forUs (set .«hardware_addr») (set .«pan_id») (set .«implicit_broadcast») facts) (numberToAcknowledge (facts .«addressing_fields») (requested (facts .«frame_control») (facts .«seq_nr»))))
     where
       facts : PreliminaryFrameInfo
       facts = infoOf (take arrived (drop (frameStart set (q .buffer)) pool))

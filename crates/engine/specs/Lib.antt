@@ -6,4 +6,5 @@ pub mod BookClaims
 pub mod Reasons
 pub mod Agreement
 pub mod Actions
+pub mod AckTurns
 pub mod Lists

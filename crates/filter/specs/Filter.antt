@@ -9,11 +9,16 @@ use Rattle.header.specs.declared.FrameControlFact.{FrameControlFact}
 use Rattle.header.specs.declared.PanId.{PanId}
 use Rattle.header.specs.declared.Address.{Address}
 use Rattle.header.specs.declared.AddressingFact.{AddressingFact}
+use Rattle.header.specs.declared.AddressingFields.{AddressingFields}
 use Rattle.header.specs.declared.PreliminaryFrameInfo.{PreliminaryFrameInfo}
 
--- FFFF: the broadcast PAN and the broadcast address
-abbrev pub broadcast : ℕ
-broadcast = 65535
+-- FFFF: the broadcast PAN
+abbrev pub broadcastPanId : ℕ
+broadcastPanId = 65535
+
+-- FFFF: the broadcast address, a short one
+abbrev pub broadcastAddress : ℕ
+broadcastAddress = 65535
 
 -- "hardware address (8 bytes, highest first)": byte i of it, counted from 0
 unfoldable pub hardwareByte : ℕ → ℕ → ℕ
@@ -31,13 +36,13 @@ controlPasses FrameControlFact.Missing = false
 -- "the destination PAN is omitted by the rules above, ours or FFFF (hexadecimal)"
 unfoldable pub panIdForUs : ℕ → PanId → Bool
 panIdForUs pan PanId.Omitted = true
-panIdForUs pan (PanId.Id id) = eqb id pan || eqb id broadcast
+panIdForUs pan (PanId.Id id) = eqb id pan || eqb id broadcastPanId
 
 -- "the destination is short FFFF, or absent with implicit broadcast on, or short equal to hardware bytes 6 and 7 ..,
 -- or extended equal to the hardware address"
 unfoldable pub addressForUs : ℕ → Bool → Address → Bool
 addressForUs hardware implicit Address.Absent = implicit
-addressForUs hardware implicit (Address.Short a) = eqb a broadcast || eqb a (shortAddressOf hardware)
+addressForUs hardware implicit (Address.Short a) = eqb a broadcastAddress || eqb a (shortAddressOf hardware)
 addressForUs hardware implicit (Address.Extended a) = eqb a hardware
 
 -- "addressing [is] there"
@@ -66,3 +71,11 @@ OnlyControlAndAddressing =
 -- the short address is the lowest 16 bits of the hardware address, whose bytes stand highest first
 abbrev pub ShortAddressIsLow : Type 0
 ShortAddressIsLow = (hardware : ℕ) → hardware % 65536 ≡ shortAddressOf hardware
+
+-- A frame without a destination that is for us passed by implicit broadcast: with that off, none is for us.
+abbrev pub AbsentNeedsImplicit : Type 0
+AbsentNeedsImplicit =
+    (hardware pan : ℕ) (info : PreliminaryFrameInfo) (f : AddressingFields) →
+    info .«addressing_fields» ≡ AddressingFact.Are f →
+    f .«dst_address» ≡ Address.Absent →
+    forUs hardware pan false info ≡ false

@@ -11,16 +11,16 @@ use Rattle.header.specs.declared.PreliminaryFrameInfo.{PreliminaryFrameInfo}
 use Rattle.filter.specs.Filter.{forUs}
 use Rattle.tasks.specs.declared.RxTask.{RxTask}
 use Rattle.moves.specs.declared.Move.{Move}
-use Rattle.reading.specs.Reading.{requested, rearmMove, receiveMove, headerMove}
+use Rattle.reading.specs.Reading.{requested, numberToAcknowledge, rearmMove, receiveMove, headerMove}
 
 module _ (set : Settings) (q : RxTask) (info : PreliminaryFrameInfo) (length : ℕ) {ours : Bool} {r : Move}
     (e : ours ≡ forUs (set .«hardware_addr») (set .«pan_id») (set .«implicit_broadcast») info) where
   pub received :
-      {i : Ifs} {number : AckSeqNum} → ours ≡ true → i ≡ ifsOf length →
-      number ≡ requested (info .«frame_control») (info .«seq_nr») → r ≡ receiveMove set q i number →
+      {i : Ifs} {wanted number : AckSeqNum} → ours ≡ true → i ≡ ifsOf length → wanted ≡ requested (info .«frame_control») (info .«seq_nr») →
+      number ≡ numberToAcknowledge (info .«addressing_fields») wanted → r ≡ receiveMove set q i number →
       r ≡ headerMove set q info length
   unfolding headerMove
-  received t e₀ e₁ e₂ = rw (sym e ∙ t) (rw (e₀, e₁) at e₂)
+  received t e₀ e₁ e₂ e₃ = rw (sym e ∙ t) (rw (e₀, e₂, e₁) at e₃)
 
   pub rearmed : ours ≡ false → r ≡ rearmMove set q → r ≡ headerMove set q info length
   unfolding headerMove

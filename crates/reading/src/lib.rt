@@ -1,6 +1,8 @@
 // The header of a frame that is being received (driver.rs).
 ghost use mathlib.Core.Path.{_≡_};
-ghost use Rattle.reading.specs.Reading.{requested, rearmMove, ackTurnMove, receiveMove, headerMove, arrivedRefusal, headerOf, readingOf};
+ghost use Rattle.reading.specs.Reading.{broadcastDestination, broadcast, requested, numberToAcknowledge, rearmMove, ackTurnMove, receiveMove, headerMove, arrivedRefusal, headerOf, readingOf};
+use header::Address;
+use header::AddressingFact;
 use header::FrameControlFact;
 use header::PreliminaryFrameInfo;
 use header::SeqNrFact;
@@ -20,7 +22,31 @@ use tasks::Timestamp;
 use tasks::Transition;
 use tasks::Wait;
 
-// The number to acknowledge: the frame's own, if it has one and requests an acknowledgement.
+// The destination is the broadcast address or absent.
+fn is_broadcast_destination(address: Address) -> bool
+    ensures { λ r. ⌜ r ≡ broadcastDestination address ⌝ }
+{
+    match address {
+        Address::Absent => true,
+        Address::Short(a) => a == 0xFFFF,
+        Address::Extended(_) => false,
+    }
+}
+
+// Whether a frame for us is a broadcast: to the short address FFFF, or without a destination.
+fn is_broadcast(fact: AddressingFact) -> bool
+    ensures { λ r. ⌜ r ≡ broadcast fact ⌝ }
+{
+    match fact {
+        AddressingFact::Are(fields) => {
+            let dst_address = fields.dst_address;
+            is_broadcast_destination(dst_address)
+        }
+        AddressingFact::Missing => false,
+    }
+}
+
+// The number that is wanted back: the frame's own, if it has one and requests an acknowledgement.
 fn requested_ack(control: FrameControlFact, number: SeqNrFact) -> AckSeqNum
     ensures { λ r. ⌜ r ≡ requested control number ⌝ }
 {
@@ -34,6 +60,17 @@ fn requested_ack(control: FrameControlFact, number: SeqNrFact) -> AckSeqNum
         AckSeqNum::Is(k)
     } else {
         AckSeqNum::None
+    }
+}
+
+// The number to acknowledge: the one that is wanted, but none of a broadcast.
+fn number_to_acknowledge(fact: AddressingFact, wanted: AckSeqNum) -> AckSeqNum
+    ensures { λ r. ⌜ r ≡ numberToAcknowledge fact wanted ⌝ }
+{
+    if is_broadcast(fact) {
+        AckSeqNum::None
+    } else {
+        wanted
     }
 }
 
@@ -92,6 +129,7 @@ fn header_move(set: Settings, q: RxTask, info: PreliminaryFrameInfo, length: u16
 {
     let control = info.frame_control;
     let number = info.seq_nr;
+    let fields = info.addressing_fields;
     let ours = filter::is_frame_valid_and_for_us(
         set.hardware_addr,
         set.pan_id,
@@ -99,12 +137,9 @@ fn header_move(set: Settings, q: RxTask, info: PreliminaryFrameInfo, length: u16
         info,
     );
     if ours {
-        receive(
-            set,
-            q,
-            phy::from_mpdu_length(length),
-            requested_ack(control, number),
-        )
+        let ifs = phy::from_mpdu_length(length);
+        let wanted = requested_ack(control, number);
+        receive(set, q, ifs, number_to_acknowledge(fields, wanted))
     } else {
         rearm(set, q)
     }

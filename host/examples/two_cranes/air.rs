@@ -1,14 +1,18 @@
 //! The air between the two cranes: every frame reaches every station, and frames that overlap may spoil one another.
 
-/// Who sends and hears. The last two are devices of another make on crane B; they follow a script and have no driver of ours.
+/// Who sends and hears. The last three follow a script and have no driver of ours: two devices of another make on crane B, and the
+/// port's coordinator.
 #[derive(Clone, Copy, Debug, PartialEq, Eq)]
 pub enum Who {
     HubA,
     CellA,
     HubB,
     CellB,
+    CellC,
+    CellD,
     HandsetB,
     ReaderB,
+    Port,
 }
 
 impl Who {
@@ -18,13 +22,16 @@ impl Who {
             Who::CellA => "cell A",
             Who::HubB => "hub B",
             Who::CellB => "cell B",
+            Who::CellC => "cell C",
+            Who::CellD => "cell D",
             Who::HandsetB => "handset B",
             Who::ReaderB => "reader B",
+            Who::Port => "port",
         }
     }
 
-    fn on_crane_a(self) -> bool {
-        matches!(self, Who::HubA | Who::CellA)
+    fn on_crane_b(self) -> bool {
+        matches!(self, Who::HubB | Who::CellB | Who::HandsetB | Who::ReaderB)
     }
 }
 
@@ -70,12 +77,12 @@ impl Air {
     }
 
     /// Crane B's devices stand close together and hear one another loudly. On crane A the spreader's steel is in the way, and hub A
-    /// hears its own cell no louder than crane B.
+    /// hears its own cell no louder than crane B. Everybody else is far away.
     fn loudness(from: Who, to: Who) -> u8 {
-        if from.on_crane_a() || to.on_crane_a() {
-            1
-        } else {
+        if from.on_crane_b() && to.on_crane_b() {
             2
+        } else {
+            1
         }
     }
 

@@ -15,14 +15,24 @@ pub struct Weighing {
 #[derive(Clone, Copy, Debug, PartialEq, Eq)]
 pub struct Weighed {
     pub kilograms: u32,
-    pub by: Cell,
+    pub by: Sender,
 }
 
-/// A cell as the header of its frame names it: its PAN and its address.
+/// Who sent a frame, as its header says: a PAN and an address.
 #[derive(Clone, Copy, Debug, PartialEq, Eq)]
-pub struct Cell {
+pub struct Sender {
     pub pan: u16,
     pub address: Address,
+}
+
+/// What a broadcast told a station: the time of day in tenths of a second. Beside it what the frame's header says, and when the
+/// frame had arrived, counted from the scene's beginning.
+#[derive(Clone, Copy, Debug, PartialEq, Eq)]
+pub struct Told {
+    pub who: Who,
+    pub tenths: u32,
+    pub info: PreliminaryFrameInfo,
+    pub arrived: u64,
 }
 
 /// By the container's name.
@@ -106,9 +116,9 @@ impl Station {
         }
     }
 
-    /// The cell as its frames name it.
-    pub fn cell(&self) -> Cell {
-        Cell {
+    /// The station as its frames name it.
+    pub fn as_sender(&self) -> Sender {
+        Sender {
             pan: self.pan,
             address: Address::Short(self.driver.settings().hardware_addr as u16),
         }

@@ -1,5 +1,5 @@
-//! Calls, actions, waits and cells in words.
-use crate::station::Cell;
+//! Calls, actions, waits and senders in words.
+use crate::station::Sender;
 use widosha::*;
 
 pub fn hex(bytes: &[u8]) -> String {
@@ -11,11 +11,18 @@ pub fn tonnes(kilograms: u32) -> String {
     format!("{}.{}", kilograms / 1000, kilograms % 1000 / 100)
 }
 
-pub fn cell(cell: &Cell) -> String {
-    match cell.address {
-        Address::Short(short) => format!("cell {short:04x} of PAN {:04x}", cell.pan),
-        Address::Extended(extended) => format!("cell {extended:016x} of PAN {:04x}", cell.pan),
-        Address::Absent => format!("a cell of PAN {:04x}", cell.pan),
+/// A time of day: hours, minutes, seconds and tenths.
+pub fn clock(tenths: u32) -> String {
+    let seconds = tenths / 10;
+    let (hours, minutes) = (seconds / 3600, seconds / 60 % 60);
+    format!("{hours:02}:{minutes:02}:{:02}.{}", seconds % 60, tenths % 10)
+}
+
+pub fn sender(sender: &Sender) -> String {
+    match sender.address {
+        Address::Short(short) => format!("{short:04x} of PAN {:04x}", sender.pan),
+        Address::Extended(extended) => format!("{extended:016x} of PAN {:04x}", sender.pan),
+        Address::Absent => format!("someone of PAN {:04x}", sender.pan),
     }
 }
 

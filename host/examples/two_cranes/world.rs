@@ -1,15 +1,15 @@
 //! Time, the stations and what happens to them: the radios obey the actions, and their outcomes are the next calls.
 use crate::air::{Air, Who, BEFORE_BYTES, BYTE, MICROSECOND};
-use crate::station::{Cell, Phase, Plan, Station, Wanted, Weighed, Weighing};
+use crate::station::{Phase, Plan, Sender, Station, Told, Wanted, Weighed, Weighing};
 use crate::words;
 use std::collections::BTreeMap;
 use widosha::*;
 
 /// Turning a radio from off to sending or receiving, and 12 symbols of spacing.
-const TURNAROUND: u64 = 192 * MICROSECOND;
+pub const TURNAROUND: u64 = 192 * MICROSECOND;
 /// A host sends again after this time.
 const BACK_OFF: u64 = 4_000 * MICROSECOND;
-/// Control, number, PAN and two short addresses: what the radios let arrive before they report a header.
+/// Control, number, PAN and two short addresses: the header of a weighing.
 const HEADER: u16 = 9;
 
 pub enum Event {
@@ -36,10 +36,11 @@ pub struct World {
     since: u64,
     order: u64,
     events: BTreeMap<(u64, u64), Event>,
-    air: Air,
+    pub air: Air,
     pub stations: Vec<Station>,
     pub plan: Plan,
     pub answers: Vec<(Who, &'static str, Response)>,
+    pub told: Vec<Told>,
     pub show: Show,
 }
 
@@ -54,6 +55,7 @@ impl World {
             stations,
             plan: Plan::new(),
             answers: Vec::new(),
+            told: Vec::new(),
             show: Show::Nothing,
         }
     }
@@ -171,13 +173,15 @@ impl World {
         }
     }
 
-    /// The frame that a station receives: its place, how much of it is needed to read the header, and when it began.
+    /// The frame that a station receives: its place, how much of it the radio lets arrive before it reports the header (to where the
+    /// address fields end, or all of it), and when it began.
     fn receiving(&self, i: usize) -> (usize, u16, u64) {
         let Phase::Receiving(id) = self.stations[i].phase else {
             panic!("a header is read only while a frame is received");
         };
         let frame = &self.air.frames[id];
-        (id, frame.length().min(HEADER), frame.begin)
+        let end = PreliminaryFrameInfo::of(&frame.bytes).addressing_end;
+        (id, end.map_or(frame.length(), u16::from), frame.begin)
     }
 
     fn stop(&mut self, i: usize) {
@@ -319,17 +323,38 @@ impl World {
         match wanted {
             Wanted::Send(weighing) => self.cell_host(i, weighing, answer.response),
             Wanted::Receive => {
-                if let Some((container, weighed)) = self.stations[i].driver.received(&answer).map(read_weighing) {
-                    let (mass, cell) = (words::tonnes(weighed.kilograms), words::cell(&weighed.by));
-                    let text = format!("to the plan: box {container} is {mass} t, weighed by {cell}");
-                    self.say(who.name(), &text);
-                    self.plan.insert(container, weighed);
+                match self.stations[i].driver.received(&answer).map(read_message) {
+                    Some(Message::Weighing(container, weighed)) => self.hand_to_plan(who, container, weighed),
+                    Some(Message::Time(tenths, info)) => self.tell_time(who, tenths, info),
+                    None => {}
                 }
                 if matches!(who, Who::HubA | Who::HubB) {
                     self.stations[i].queue.push_back(Wanted::Receive);
                 }
             }
         }
+    }
+
+    fn hand_to_plan(&mut self, who: Who, container: String, weighed: Weighed) {
+        let (mass, cell) = (words::tonnes(weighed.kilograms), words::sender(&weighed.by));
+        let text = format!("to the plan: box {container} is {mass} t, weighed by cell {cell}");
+        self.say(who.name(), &text);
+        self.plan.insert(container, weighed);
+    }
+
+    fn tell_time(&mut self, who: Who, tenths: u32, info: PreliminaryFrameInfo) {
+        let (time, sender) = (words::clock(tenths), words::sender(&sender_of(&info)));
+        self.say(
+            who.name(),
+            &format!("ANSWER received: it is {time}, says {sender} to everyone"),
+        );
+        let arrived = self.now - self.since;
+        self.told.push(Told {
+            who,
+            tenths,
+            info,
+            arrived,
+        });
     }
 
     fn cell_host(&mut self, i: usize, weighing: Weighing, response: Response) {
@@ -353,14 +378,29 @@ impl World {
     }
 }
 
-/// What a hub reads in a frame: the sender from its header, and container and mass from where the address fields end.
-fn read_weighing(received: Received) -> (String, Weighed) {
-    let by = Cell {
-        pan: received.info.src_pan_id.expect("a cell's frame has a PAN for its source"),
-        address: received.info.src_address.expect("a whole frame has its source"),
-    };
+pub fn sender_of(info: &PreliminaryFrameInfo) -> Sender {
+    Sender {
+        pan: info.src_pan_id.expect("every frame for us here has a PAN for its source"),
+        address: info.src_address.expect("a whole frame has its source"),
+    }
+}
+
+enum Message {
+    Weighing(String, Weighed),
+    Time(u32, PreliminaryFrameInfo),
+}
+
+/// What a host reads in a frame: sender and receiver from its header, and from where the address fields end the time, if it is for
+/// everyone, else container and mass.
+fn read_message(received: Received) -> Message {
     let payload = received.after_addressing().expect("a whole frame has its address fields");
+    let to = received.info.addressing_fields.map(|fields| fields.dst_address);
+    if to == Some(Address::Short(0xFFFF)) {
+        let tenths = u32::from_le_bytes(payload.try_into().expect("four bytes"));
+        return Message::Time(tenths, received.info);
+    }
+    let by = sender_of(&received.info);
     let container = String::from_utf8_lossy(&payload[..2]).into_owned();
     let kilograms = u32::from_le_bytes(payload[2..6].try_into().expect("four bytes"));
-    (container, Weighed { kilograms, by })
+    Message::Weighing(container, Weighed { kilograms, by })
 }

@@ -5,6 +5,15 @@ use crate::model::calls::{Raw, RawStart};
 use crate::model::engine::{Left, Next, State, Wait};
 use crate::model::header::Control;
 
+/// A hardware address; now and then one that ends as the broadcast address, or is nothing but FF.
+fn hardware(rng: &mut Rng) -> u64 {
+    match rng.below(20) {
+        0 => rng.number() | 0xffff,
+        1 => u64::MAX,
+        _ => rng.number(),
+    }
+}
+
 /// Settings that start accepts.
 pub fn settings(rng: &mut Rng) -> RawStart {
     let count = match rng.below(10) {
@@ -20,7 +29,7 @@ pub fn settings(rng: &mut Rng) -> RawStart {
         headroom: rng.below(9) as u8,
         tailroom: rng.below(9) as u8,
         fcs_length: rng.pick(&[2, 4]),
-        hardware_addr: rng.number(),
+        hardware_addr: hardware(rng),
         pan_id: if rng.chance(5) { 0xffff } else { rng.number() as u16 },
         implicit_broadcast: rng.below(2) as u8,
         ack_buffer: ack,

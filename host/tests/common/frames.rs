@@ -1,6 +1,6 @@
 //! Random bytes of frames: headers that are often for us, acknowledgements that are often the awaited one, and near misses.
 use super::random::Rng;
-use crate::model::header::Control;
+use crate::model::header::{self, Address, Control};
 use crate::model::settings::Settings;
 
 /// Flips one bit now and then.
@@ -71,6 +71,49 @@ pub fn header(rng: &mut Rng, settings: &Settings) -> Vec<u8> {
     near(rng, &mut bytes, 10);
     bytes.extend([rng.byte(), rng.byte()]);
     bytes
+}
+
+/// Whom a frame for us is for, with the field that says so.
+#[derive(Clone, Copy, Debug, PartialEq, Eq, PartialOrd, Ord)]
+pub enum For {
+    Everyone(&'static str),
+    Us(&'static str),
+}
+
+/// All that `requested` gives, in order.
+pub const EVERY_FOR: [For; 10] = [
+    For::Everyone("absent, version 0"),
+    For::Everyone("absent, version 1"),
+    For::Everyone("absent, version 2"),
+    For::Everyone("short FFFF"),
+    For::Everyone("short FFFF, our own too"),
+    For::Us("eight FF"),
+    For::Us("extended"),
+    For::Us("extended in PAN FFFF"),
+    For::Us("short"),
+    For::Us("short in PAN FFFF"),
+];
+
+/// Whom a frame is for that is for us, requests an ACK and has a number. The PAN is named where it is not ours.
+pub fn requested(settings: &Settings, arrived: &[u8]) -> Option<For> {
+    let facts = header::read(arrived);
+    let control = Control(facts.control?);
+    facts.number?;
+    let addressing = facts.addressing?;
+    if !control.wants_ack() || !header::for_us(settings, &facts) {
+        return None;
+    }
+    let any_pan = settings.pan != 0xffff && addressing.destination_pan == Some(0xffff);
+    Some(match addressing.destination {
+        Address::Absent => EVERY_FOR[usize::from(control.version())],
+        Address::Short(0xffff) if settings.hardware.ends_with(&[0xff, 0xff]) => For::Everyone("short FFFF, our own too"),
+        Address::Short(0xffff) => For::Everyone("short FFFF"),
+        Address::Short(_) if any_pan => For::Us("short in PAN FFFF"),
+        Address::Short(_) => For::Us("short"),
+        Address::Extended(u64::MAX) => For::Us("eight FF"),
+        Address::Extended(_) if any_pan => For::Us("extended in PAN FFFF"),
+        Address::Extended(_) => For::Us("extended"),
+    })
 }
 
 /// An acknowledgement of the number, or nearly one.

@@ -1,4 +1,4 @@
-//! Document 01, "Waits" and "Refusals, in checking order": the state and what each call does with it.
+//! Document 01, "Waits" and "Refusals, in checking order", and document 02, E4: the state and what each call does with it.
 use super::calls::{Action, Answer, Call, CameTo, Cause, Outcome, Received, Reply, Request, Start, Stop, Task};
 use super::header::{self, Control};
 use super::settings::{latest_ack_start, spacing, Settings, Spacing};
@@ -395,9 +395,12 @@ impl State {
                 None,
             );
         }
+        // E4: "Broadcasts are never acknowledged." "From now on a frame for us whose destination is short FFFF, or which passed by
+        // implicit broadcast, is received without an ACK turn."
+        let broadcast = header::is_broadcast(&self.settings, &facts);
         match (facts.control, facts.number) {
             // "For us with request bit and sequence number: write it in the ACK frame, send it, rollback on."
-            (Some(control), Some(number)) if Control(control).wants_ack() => {
+            (Some(control), Some(number)) if Control(control).wants_ack() && !broadcast => {
                 pool[self.settings.frame(self.settings.ack) + 2] = number;
                 // "before an ACK: the ACK spacing"
                 let task = own_task(self.settings.ack, Some(Spacing::Ack), true);

@@ -1,4 +1,5 @@
-//! Document 01, "Header facts", and document 02, E2: what the bytes of a frame's header say, and whether the frame is for us.
+//! Document 01, "Header facts", and document 02, E2 and E4: what the bytes of a frame's header say, whether the frame is for us, and
+//! whether it is a broadcast.
 use super::settings::Settings;
 use std::ops::Range;
 
@@ -226,4 +227,11 @@ pub fn for_us(settings: &Settings, facts: &Facts) -> bool {
         Address::Extended(extended) => extended == u64::from_be_bytes(*hardware),
     };
     pan && destination
+}
+
+/// Of a frame that is for us. E4: "whose destination is short FFFF, or which passed by implicit broadcast". The address decides, not
+/// the PAN; short FFFF is for everyone, whatever our hardware address is; an absent destination passes by implicit broadcast alone.
+pub fn is_broadcast(settings: &Settings, facts: &Facts) -> bool {
+    let destination = facts.addressing.map(|addressing| addressing.destination);
+    destination == Some(Address::Short(0xffff)) || settings.implicit && destination == Some(Address::Absent)
 }

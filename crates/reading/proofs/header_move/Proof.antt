@@ -14,6 +14,9 @@ from-mpdu-length-requires c κs = search needs
 requested-ack-requires : tie.Need-requested-ack-requires
 requested-ack-requires c κs = search needs
 
+number-to-acknowledge-requires : tie.Need-number-to-acknowledge-requires
+number-to-acknowledge-requires c κs = search needs
+
 receive-requires : tie.Need-receive-requires
 receive-requires c κs = search needs
 
@@ -23,10 +26,11 @@ rearm-requires c κs = search needs
 returns : tie.Need-returns
 returns c =
     received _ _ _ _
-    (c .before .before .before .before .is-frame-valid-and-for-us .ensures)
-    (c .before .before .before .if1 .taken)
-    (c .before .before .from-mpdu-length .ensures)
-    (c .before .requested-ack .ensures)
+    (c .before .before .before .before .before .is-frame-valid-and-for-us .ensures)
+    (c .before .before .before .before .if1 .taken)
+    (c .before .before .before .from-mpdu-length .ensures)
+    (c .before .before .requested-ack .ensures)
+    (c .before .number-to-acknowledge .ensures)
     (c .receive .ensures)
 
 returns-2 : tie.Need-returns-2
@@ -43,6 +47,7 @@ header-move-spec =
     is-frame-valid-and-for-us-requires
     from-mpdu-length-requires
     requested-ack-requires
+    number-to-acknowledge-requires
     receive-requires
     rearm-requires
     returns

@@ -1,4 +1,4 @@
--- What `step` and `start` promise: the three demands together.
+-- What `step` and `start` promise: the three demands together, and when a received frame is acknowledged.
 -- Assumes nothing.
 use Prim.Native.Nat.{ℕ}
 use mathlib.Core.Path.{_≡_}

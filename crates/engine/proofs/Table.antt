@@ -217,7 +217,7 @@ module _ (set : Settings) (pool : List ℕ) where
     N = newStanding (nextOf set pool q (q .task))
 
     -- refusals 6 to 9 are passed, so the buffer is not held
-    free : (s : State) (a : Asked) → requestRefusal s a q ≡ 0
+    pub free : (s : State) (a : Asked) → requestRefusal s a q ≡ 0
         → (bufferHeld s (q .buffer) ≡ false) × (tokenHeld (s .wait) (q .token) ≡ false)
     unfolding requestRefusal
     free s a h =

@@ -112,11 +112,11 @@ readingOf s pool q (Call.Entered r entry) = unfit s
 readingOf s pool q (Call.Fallback r cause) = unfit s
 readingOf s pool q Call.Rollback = unfit s
 
--- Laws, proved in proofs/Laws.antt: what E4 asks for, said of the destination itself. Each settles refusal, state, reply and the byte
--- that is written into the ACK frame.
+-- Laws, proved in proofs/Laws.antt: what E4 asks for, said of the destination itself. Each settles the whole move: state, reply and the
+-- byte that is written into the ACK frame. (engine, `EveryAckTurnIsDue`, is of the call.)
 
--- A frame whose destination is short FFFF or absent never leads to the ACK turn, whatever its other facts are. If it is for us, it is
--- received as a frame that requests no ACK is: "Else ask, any direction"; if not, re-armed. No number is written.
+-- A frame whose destination is short FFFF or absent never leads to the ACK turn, whatever its other facts are. If it is for us, the
+-- engine asks: "Else ask, any direction"; if not, it is re-armed. No number is written.
 abbrev pub BroadcastNotAcknowledged : Type 0
 BroadcastNotAcknowledged =
     (set : Settings) (q : RxTask) (info : PreliminaryFrameInfo) (length : ℕ) (f : AddressingFields) →

@@ -1,12 +1,18 @@
-/* The driver service of IEEE 802.15.4 and its header reader as C functions on numbers and byte slices.
+/* The driver service of IEEE 802.15.4, its header reader and the checksum of frames as C functions on numbers and byte slices.
  *
  * docs/LAYOUTS.md gives every code and all layouts byte by byte. A slice is a pointer and its length in bytes. The three slices of
  * start and of a call are the state, the reply and the pool; the two of the header reader are the frame, which is only read, and
- * the facts. Each pointer must be good for reading and writing as many bytes as its length says (the frame's for reading), and the
- * slices must not overlap. Each function returns 0 or the number of the refusal, and a refusal leaves all slices as they were.
+ * the facts; the two functions of the checksum have one slice, which is only read. Each pointer must be good for reading and
+ * writing as many bytes as its length says (one that is only read for reading), and the slices must not overlap.
+ *
+ * Start, the calls and the header reader return 0 or the number of the refusal, and a refusal leaves all slices as they were.
+ * widosha_fcs returns the checksum itself, of which the low byte is sent first; it refuses nothing. widosha_check_fcs returns 0
+ * (yes), 255 (no) or 14 (refused: the frame with its checksum has under 3 or over 127 bytes). So 0 is the one answer of a function
+ * that returns uint8_t which says that all is well, and no refusal has the number 255.
  *
  * A null pointer with length 0 may be passed for any slice. It is a slice of length 0, and so the call is refused: 1 for the state,
- * the reply or the facts, 2 for the pool. For the frame it is no refusal: no byte has arrived, and no fact is there.
+ * the reply or the facts, 2 for the pool, 14 for the frame of widosha_check_fcs. For the header reader's frame it is no refusal: no
+ * byte has arrived, and no fact is there. The checksum of no bytes is 0.
  *
  * tests/40-header.sh compares these declarations with the source. */
 #ifndef WIDOSHA_H
@@ -19,6 +25,11 @@
 #define WIDOSHA_REPLY_LENGTH 48
 #define WIDOSHA_BUFFER_LENGTH 144
 #define WIDOSHA_INFO_LENGTH 32
+
+/* What widosha_check_fcs returns. */
+#define WIDOSHA_FCS_YES 0
+#define WIDOSHA_FCS_NO 255
+#define WIDOSHA_FCS_REFUSED 14
 
 #ifdef __cplusplus
 extern "C" {
@@ -64,9 +75,15 @@ uint8_t widosha_fallback(
 uint8_t widosha_rollback(
     uint8_t *state, size_t state_len, uint8_t *reply, size_t reply_len, uint8_t *pool, size_t pool_len);
 
-/* This one is in the library frame_c, those above are in driver_c. */
+/* From here on the functions are in the library frame_c, those above are in driver_c. */
 uint8_t widosha_preliminary_frame_info(
     const uint8_t *frame, size_t frame_len, uint8_t *info, size_t info_len);
+
+/* The 16-bit checksum (FCS) of any bytes, also of none. */
+uint16_t widosha_fcs(const uint8_t *bytes, size_t bytes_len);
+
+/* Whether the last two bytes of a frame are the checksum of the bytes before them. */
+uint8_t widosha_check_fcs(const uint8_t *frame, size_t frame_len);
 
 #ifdef __cplusplus
 }

@@ -1,5 +1,6 @@
-# The host crate: its unit tests, its documented example and its documentation; none of its functions can panic; and the demonstration
-# of the two cranes holds what it tells (it checks every answer and every mass itself) and prints the same twice.
+# The host crate: its unit tests, its documented examples and its documentation; none of its functions can panic, nor can the
+# reader of captures; and the demonstration of the two cranes holds what it tells (it checks every answer and every mass itself)
+# and prints the same twice.
 set -e
 for each in cargo "${RUSTC:-rustc}"; do
     if ! command -v "$each" >/dev/null; then
@@ -21,22 +22,24 @@ RUSTDOCFLAGS="-D warnings" host doc --no-deps
 if command -v nm >/dev/null; then
     out=$CARGO_TARGET_DIR/no-panic
     mkdir -p "$out"
+    # With checks of arithmetic, so that an overflow would be a panic that is found.
     compile() {
-        "${RUSTC:-rustc}" --edition 2021 -C opt-level=3 -C panic=abort --out-dir "$out" -L "$out" -L native="$folder" "$@"
+        "${RUSTC:-rustc}" --edition 2021 -C opt-level=3 -C overflow-checks=on -C panic=abort --out-dir "$out" -L "$out" \
+            -L native="$folder" "$@"
     }
     compile --crate-name widosha --crate-type rlib host/src/lib.rs -l static=driver_c -l static=frame_c
     compile --crate-type staticlib -C lto=fat -C codegen-units=1 host/checks/no_panic.rs --extern widosha="$out/libwidosha.rlib"
-    for each in start step bytes facts end; do
+    for each in start step bytes facts end checksum capture; do
         if ! nm "$out/libno_panic.a" 2>/dev/null | grep -q " T $each\$"; then
             echo "the check for panics has no function $each"
             exit 1
         fi
     done
     if nm "$out/libno_panic.a" 2>/dev/null | grep -q widosha_can_panic; then
-        echo "some function of the host crate can panic"
+        echo "some function of the host crate, or the reader of captures, can panic"
         exit 1
     fi
-    echo "no function of the host crate can panic"
+    echo "no function of the host crate can panic, nor can the reader of captures"
 fi
 
 host build --release --example two_cranes

@@ -1,5 +1,6 @@
 #!/bin/sh
-# The host's tests: the exported library against an independent model of documents 01 and 02, through C. Prints the counts.
+# The host's tests: the exported library against an independent model of documents 01 and 02, through C, and the reader of
+# captures on written and damaged ones. Prints the counts.
 # Exit 0 passed, 77 not run (the reason is printed), anything else failed.
 set -u
 cd "$(dirname "$0")/.." || exit 1
@@ -27,7 +28,7 @@ status=$?
 if [ "$status" -ne 0 ]; then
     cat "$log"
 else
-    grep -E '^(random|boundaries|slices|damaged|facts):|^  (accepted|refused)' "$log"
+    grep -E '^(random|boundaries|slices|damaged|facts|fcs|capture):|^  (accepted|refused)' "$log"
 fi
 awk '/^test result: / { passed += $4; failed += $6 }
      END { printf "42-host-tests: %d tests passed, %d failed\n", passed, failed }' "$log"
@@ -36,7 +37,7 @@ if [ "$status" -ne 0 ]; then
     exit 1
 fi
 # A suite that ran nothing has not passed.
-for test in random boundaries slices damaged facts; do
+for test in random boundaries slices damaged facts fcs capture; do
     if ! grep -q "^$test: [0-9a-z]" "$log"; then
         echo "42-host-tests: failed, $test printed no counts"
         exit 1

@@ -1,7 +1,12 @@
-//! Uses every public function of the crate in a library without std. Its panic handler calls a function that is nowhere; if the
-//! optimised library still names that function, some path can panic. tests/41-host-lib.sh looks.
+//! Uses every public function of the crate, and the reader of captures, in a library without std. Its panic handler calls a
+//! function that is nowhere; if the optimised library still names that function, some path can panic. tests/41-host-lib.sh looks.
+//! It is compiled with checks of arithmetic, so that a sum that could overflow would be found too.
 #![no_std]
 use widosha::*;
+
+#[allow(dead_code)]
+#[path = "../examples/check_capture/reader.rs"]
+mod reader;
 
 extern "C" {
     fn widosha_can_panic() -> !;
@@ -70,4 +75,28 @@ pub extern "C" fn end(service: &mut Option<DriverService<4>>, buffer: u8) -> u8 
     let mut pool = service.take().map_or_else(Pool::<4>::new, DriverService::into_pool);
     let row = pool.buffer_mut(buffer).map_or(0, |row| row[0]);
     row ^ Pool::<4>::COUNT
+}
+
+#[no_mangle]
+pub extern "C" fn checksum(frame: &&[u8], fcs: &mut [u8; 2]) -> u8 {
+    *fcs = widosha::fcs(frame);
+    check_fcs(frame).map_or_else(Refusal::number, u8::from)
+}
+
+/// Everything that the reader gives of a file: places, lengths, bytes and damage. The words for damage are made by core's
+/// formatting, which is not looked at here.
+#[no_mangle]
+pub extern "C" fn capture(file: &&[u8], damage: &mut Option<reader::damage::Damage>) -> usize {
+    let mut seen = 0usize;
+    for next in reader::Reader::new(file) {
+        match next {
+            Ok(frame) => {
+                let numbers = [frame.offset, frame.line.unwrap_or(0), frame.original.unwrap_or(0) as usize];
+                seen = numbers.into_iter().fold(seen, usize::wrapping_add);
+                seen = frame.data.fold(seen, |seen, byte| seen.rotate_left(5) ^ usize::from(byte));
+            }
+            Err(found) => *damage = Some(found),
+        }
+    }
+    seen
 }

@@ -1,7 +1,7 @@
 //! The exported functions as they are, without any check. `tests/40-header.sh` compares these declarations with
 //! `include/widosha.h` and with the source of the library; `docs/LAYOUTS.md` gives the codes and all layouts.
 //!
-//! Each function returns 0 or the number of the refusal, and a refusal leaves all slices as they were.
+//! Each function but the last two returns 0 or the number of the refusal, and a refusal leaves all slices as they were.
 //!
 //! # Safety
 //!
@@ -16,6 +16,13 @@ pub const REPLY_LENGTH: usize = 48;
 pub const BUFFER_LENGTH: usize = 144;
 /// Length of the slice of facts in bytes.
 pub const INFO_LENGTH: usize = 32;
+
+/// The check's answer yes: the last two bytes are the checksum of the rest.
+pub const FCS_YES: u8 = 0;
+/// The check's answer no. 255 is no number of a refusal.
+pub const FCS_NO: u8 = 255;
+/// The check's refusal: the frame has under 3 or over 127 bytes.
+pub const FCS_REFUSED: u8 = 14;
 
 unsafe extern "C" {
     /// Checks the settings, writes the first state, and writes 02 10 00 into the ACK buffer's frame.
@@ -146,4 +153,10 @@ unsafe extern "C" {
 
     /// What the header says of a frame of which these bytes have arrived.
     pub fn widosha_preliminary_frame_info(frame: *const u8, frame_len: usize, info: *mut u8, info_len: usize) -> u8;
+
+    /// The 16-bit FCS of these bytes, as a number whose low byte is sent first.
+    pub fn widosha_fcs(bytes: *const u8, bytes_len: usize) -> u16;
+
+    /// Whether the last two bytes of the frame are the checksum of the rest: FCS_YES, FCS_NO or FCS_REFUSED.
+    pub fn widosha_check_fcs(frame: *const u8, frame_len: usize) -> u8;
 }

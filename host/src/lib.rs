@@ -1,11 +1,12 @@
 //! Safe Rust over the proved IEEE 802.15.4 driver service.
 //!
 //! The service stands between the requests of a MAC and the radio. It is a machine that takes one call at a time: the host or the
-//! radio says what happened, and the reply says what the radio or the queue is to do next and which requests are answered. Beside it
-//! stands the header reader, which says of a frame's bytes who sent it and to whom. The libraries `driver_c` and `frame_c` behind them
-//! are written and proved in Rattle; what is proved of them, and what is not, stands in the README of the repository. Here their numbers
-//! and byte slices become types: a slice of a wrong length and a code that stands for nothing cannot be written down. Nothing is
-//! allocated, and no function panics. That this crate passes each number on as it should is tested, not proved.
+//! radio says what happened, and the reply says what the radio or the queue is to do next and which requests are answered. Beside
+//! it stand the header reader, which says of a frame's bytes who sent it and to whom, and `fcs` and `check_fcs`, which work out
+//! and check the checksum of a captured frame. The libraries `driver_c` and `frame_c` behind them are written and proved in
+//! Rattle; what is proved of them, and what is not, stands in the README of the repository. Here their numbers and byte slices
+//! become types: a slice of a wrong length and a code that stands for nothing cannot be written down. Nothing is allocated, and
+//! no function panics. That this crate passes each number on as it should is tested, not proved.
 //!
 //! A load cell sends a weighing of 12 bytes that wants an acknowledgement, and gets it:
 //!
@@ -95,6 +96,7 @@
 extern crate std;
 
 mod call;
+mod fcs;
 #[allow(unsafe_code)]
 pub mod ffi;
 mod info;
@@ -105,6 +107,7 @@ mod settings;
 mod wait;
 
 pub use call::{Call, Cause, Request, RxResult, StopResult, Task, TaskResult, Timestamp};
+pub use fcs::{check_fcs, fcs};
 pub use info::{Address, AddressingFields, PreliminaryFrameInfo, Received};
 pub use reply::{Action, Answer, Answers, Ifs, Refusal, Reply, Response, Spacing, StopListening, TaskDirection};
 pub use service::DriverService;

@@ -47,3 +47,14 @@ pub(crate) fn preliminary_frame_info(frame: &[u8], info: &mut [u8; INFO_LENGTH])
     // many bytes as the length beside it says; both borrows live until the function returns, and it keeps no pointer.
     unsafe { ffi::widosha_preliminary_frame_info(frame.as_ptr(), frame.len(), info.as_mut_ptr(), info.len()) }
 }
+
+pub(crate) fn fcs(bytes: &[u8]) -> u16 {
+    // SAFETY: the pointer comes from a shared borrow of as many bytes as the length says, which are only read; the borrow lives
+    // until the function returns, and it keeps no pointer.
+    unsafe { ffi::widosha_fcs(bytes.as_ptr(), bytes.len()) }
+}
+
+pub(crate) fn check_fcs(frame: &[u8]) -> u8 {
+    // SAFETY: as of `fcs`.
+    unsafe { ffi::widosha_check_fcs(frame.as_ptr(), frame.len()) }
+}

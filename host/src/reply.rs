@@ -158,7 +158,7 @@ pub struct Reply {
     pub answers: Answers,
 }
 
-/// Why a call was refused, by document 01's numbers. A refused call changes nothing.
+/// Why a call was refused, by the numbers of documents 01 and 02. A refused call changes nothing.
 #[derive(Clone, Copy, Debug, PartialEq, Eq)]
 pub enum Refusal {
     /// 1: the state bytes are not a state. Does not occur here.
@@ -183,6 +183,8 @@ pub enum Refusal {
     ReceivedLength,
     /// 11: the latest start of the ACK exceeds 64 bits.
     EntryTooLate,
+    /// 14: the frame whose checksum is to be checked has, with its checksum, under 3 or over 127 bytes. From `check_fcs` alone.
+    FrameLength,
     /// The library and this crate do not belong together: it returned this number, or with 0 a reply, that docs/LAYOUTS.md does
     /// not have.
     Unknown(u8),
@@ -203,6 +205,7 @@ impl Refusal {
             Refusal::NotAllowed => 9,
             Refusal::ReceivedLength => 10,
             Refusal::EntryTooLate => 11,
+            Refusal::FrameLength => 14,
             Refusal::Unknown(number) => number,
         }
     }
@@ -222,6 +225,7 @@ impl Refusal {
             9 => Refusal::NotAllowed,
             10 => Refusal::ReceivedLength,
             11 => Refusal::EntryTooLate,
+            14 => Refusal::FrameLength,
             _ => Refusal::Unknown(number),
         })
     }
@@ -344,7 +348,10 @@ mod tests {
         for number in 1..=255 {
             assert_eq!(Refusal::of(number).map(Refusal::number), Some(number));
         }
-        assert_eq!(Refusal::of(12), Some(Refusal::Unknown(12)));
+        assert_eq!(Refusal::of(14), Some(Refusal::FrameLength));
+        for number in [12, 13, 15, 255] {
+            assert_eq!(Refusal::of(number), Some(Refusal::Unknown(number)));
+        }
     }
 
     #[test]

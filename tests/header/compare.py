@@ -1,6 +1,7 @@
 """Compares the declarations of the exported functions: include/widosha.h, the sources of crates/driver_c and crates/frame_c,
-host/src/ffi.rs and the table of docs/LAYOUTS.md. Names, argument names, their order, widths and results have to agree, and no function may be missing
-anywhere. So do whether a slice is only read, and the four lengths.
+host/src/ffi.rs and the tables of docs/LAYOUTS.md. Names, argument names, their order, widths and results have to agree, and no
+function may be missing anywhere. So do whether a slice is only read, the four lengths, and the three answers of the check of a
+checksum.
 
     compare.py              compares; a difference is printed and ends with 1
     compare.py --self-test  mutates the text of each declaration, one change at a time, and checks that each change is found
@@ -14,21 +15,33 @@ SOURCES = {
     "host": "host/src/ffi.rs",
     "table": "docs/LAYOUTS.md",
 }
+# What docs/LAYOUTS.md says of every function in its first table.
 SLICES = [("state", "slice"), ("reply", "slice"), ("pool", "slice")]
-SLICES_OF = {"widosha_preliminary_frame_info": [("frame", "slice that is only read"), ("info", "slice")]}
 WIDTHS = ("u8", "u16", "u32", "u64")
 LENGTHS = ("STATE", "REPLY", "BUFFER", "INFO")
-# Where a text states a length; docs/LAYOUTS.md does so in a sentence and in a heading.
+ANSWERS = ("YES", "NO", "REFUSED")
+# Where a text states a number; docs/LAYOUTS.md does so in two places, but for the length of a buffer.
 STATED = {
-    "header": {name: [r"#define WIDOSHA_%s_LENGTH (\d+)\n" % name] for name in LENGTHS},
-    "host": {name: [r"pub const %s_LENGTH: usize = (\d+);\n" % name] for name in LENGTHS},
+    "header": {
+        **{"%s_LENGTH" % name: [r"#define WIDOSHA_%s_LENGTH (\d+)\n" % name] for name in LENGTHS},
+        **{"FCS_%s" % name: [r"#define WIDOSHA_FCS_%s (\d+)\n" % name] for name in ANSWERS},
+    },
+    "host": {
+        **{"%s_LENGTH" % name: [r"pub const %s_LENGTH: usize = (\d+);\n" % name] for name in LENGTHS},
+        **{"FCS_%s" % name: [r"pub const FCS_%s: u8 = (\d+);\n" % name] for name in ANSWERS},
+    },
     "table": {
-        "STATE": [r"the state\s+\((\d+)\s+bytes\)", r"## The state's (\d+) bytes\n"],
-        "REPLY": [r"the reply\s+\((\d+)\s+bytes\)", r"## The reply's (\d+) bytes\n"],
-        "BUFFER": [r"the pool\s+\((\d+)\s+×\s+n\s+bytes\)"],
-        "INFO": [r"the facts\s+\((\d+)\s+bytes\)", r"## The facts' (\d+) bytes\n"],
+        "STATE_LENGTH": [r"the state\s+\((\d+)\s+bytes\)", r"## The state's (\d+) bytes\n"],
+        "REPLY_LENGTH": [r"the reply\s+\((\d+)\s+bytes\)", r"## The reply's (\d+) bytes\n"],
+        "BUFFER_LENGTH": [r"the pool\s+\((\d+)\s+×\s+n\s+bytes\)"],
+        "INFO_LENGTH": [r"the facts\s+\((\d+)\s+bytes\)", r"## The facts' (\d+) bytes\n"],
+        "FCS_YES": [r"8 bits: (\d+) yes,", r"\n\| (\d+) \| yes \| `WIDOSHA_FCS_YES` \|\n"],
+        "FCS_NO": [r"8 bits: \d+ yes, (\d+) no,", r"\n\| (\d+) \| no \| `WIDOSHA_FCS_NO` \|"],
+        "FCS_REFUSED": [r"\d+ no, or refusal (\d+) \|", r"\n\| (\d+) \| refused: [^|\n]* \| `WIDOSHA_FCS_REFUSED` \|"],
     },
 }
+# Every number that a text gives a name has to be in the list above.
+NAMED = {"header": r"#define WIDOSHA_(\w+) ", "host": r"\bconst (\w+):", "table": r"\| `WIDOSHA_(\w+)` \|"}
 
 
 class Unreadable(Exception):
@@ -105,11 +118,17 @@ def read_host(text):
 
 
 def read_table(text):
-    """The rows of the table give the numbers; slices and result are what the text around the table says of every function."""
+    """A row of the first table gives the numbers; slices and result are what the text above it says of all its functions. A row of
+    the second gives slices and result."""
+    shared = re.search(r"three slices after its numbers, and returns (\d+ bits):\n", text)
+    if not shared:
+        raise Unreadable("no sentence about the slices and results of the first table")
     found = []
-    for match in re.finditer(r"^\| (`)(widosha_\w+)` \| (.*?) \|$", text, flags=re.M):
-        parameters = [] if match.group(3) == "none" else pieces(match.group(3), match.start(3))
-        found.append(Declaration(Piece(match.group(2), match.start(2)), parameters, None))
+    for match in re.finditer(r"^\| `(widosha_\w+)` \| ([^|\n]*?) \|(?: (\d+ bits): [^|\n]* \|)?$", text, flags=re.M):
+        parameters = [] if match.group(2) == "none" else pieces(match.group(2), match.start(2))
+        result = Piece(match.group(3), match.start(3)) if match.group(3) else Piece(shared.group(1), shared.start(1))
+        found.append(Declaration(Piece(match.group(1), match.start(1)), parameters, result))
+    expect_all(found, len(re.findall(r"^\| `widosha_", text, flags=re.M)))
     return found
 
 
@@ -152,10 +171,11 @@ def in_host(parameter):
 
 
 def in_table(parameter):
-    match = re.fullmatch(r"(\w+) \((8|16|32|64)(?:| bits|: 0 or 1)\)", parameter)
+    match = re.fullmatch(r"(\w+) \((?:(8|16|32|64)(?:| bits|: 0 or 1)|(only read|written))\)", parameter)
     if not match:
         raise Unreadable(parameter)
-    return match.group(1), "u" + match.group(2)
+    kinds = {"only read": "slice that is only read", "written": "slice"}
+    return match.group(1), "u" + match.group(2) if match.group(2) else kinds[match.group(3)]
 
 
 FORMS = {"header": in_header, "source": in_source, "host": in_host, "table": in_table}
@@ -174,27 +194,46 @@ def fold(arguments):
     return folded
 
 
+def result_of(text):
+    match = re.fullmatch(r"uint(8|16|32|64)_t|u(8|16|32|64)|(8|16|32|64) bits", text)
+    if not match:
+        raise Unreadable("result %s" % text)
+    return "u" + (match.group(1) or match.group(2) or match.group(3))
+
+
 def signatures(which, text):
     """Function name to (arguments, result), each in words that all four texts share."""
     found = {}
     for declaration in READERS[which](text):
         name = declaration.name.text
         arguments = fold([FORMS[which](parameter.text) for parameter in declaration.parameters])
-        if which == "table":
-            arguments, result = arguments + SLICES_OF.get(name, SLICES), "u8"
-        else:
-            result = {"uint8_t": "u8"}.get(declaration.result.text, declaration.result.text)
+        if which == "table" and not any("slice" in kind for _, kind in arguments):
+            arguments += SLICES
         if name in found:
             raise Unreadable("%s is declared twice" % name)
-        found[name] = (arguments, result)
+        found[name] = (arguments, result_of(declaration.result.text))
     if not found:
         raise Unreadable("no function at all")
     return found
 
 
-def lengths(which, text, name):
-    """The places where a text states a length, as lists: one for each way of stating it."""
+def places_of(which, text, name):
+    """The places where a text states a number, as lists: one for each way of stating it."""
     return [[match.span(1) for match in re.finditer(pattern, text)] for pattern in STATED[which][name]]
+
+
+def differences_of_numbers(texts):
+    found = []
+    for name in STATED["header"]:
+        places = {which: places_of(which, texts[which], name) for which in STATED}
+        numbers = {which: [texts[which][start:end] for way in places[which] for start, end in way] for which in STATED}
+        stated = all(way for ways in places.values() for way in ways)
+        if not stated or len({number for each in numbers.values() for number in each}) != 1:
+            found.append("%s differs: %s" % (name, numbers))
+    for which, pattern in NAMED.items():
+        unknown = [name for name in re.findall(pattern, texts[which]) if name not in STATED[which]]
+        found += ["%s has %s, which is not compared" % (SOURCES[which], name) for name in unknown]
+    return found
 
 
 def differences(texts):
@@ -211,13 +250,7 @@ def differences(texts):
         if len({repr(signature) for signature in held.values()}) > 1:
             lines = ["    %s: %s" % (SOURCES[which], shown(signature)) for which, signature in held.items()]
             found.append("%s differs:\n%s" % (name, "\n".join(lines)))
-    for name in LENGTHS:
-        places = {which: lengths(which, texts[which], name) for which in STATED}
-        numbers = {which: [texts[which][start:end] for way in places[which] for start, end in way] for which in STATED}
-        stated = all(way for ways in places.values() for way in ways)
-        if not stated or len({number for each in numbers.values() for number in each}) != 1:
-            found.append("length of %s differs: %s" % (name.lower(), numbers))
-    return found
+    return found + differences_of_numbers(texts)
 
 
 def shown(signature):
@@ -236,19 +269,22 @@ def replaced(text, start, end, by):
 
 def other_width(text):
     """The same parameter or result with another width or kind."""
-    match = re.search(r"(?<=uint)(8|16|32|64)(?=_t)|(?<=\bu)(8|16|32|64)\b|(?<=\()(8|16|32|64)\b|\bsize_t|\busize", text)
+    match = re.search(r"(?<=uint)(8|16|32|64)(?=_t)|(?<=\bu)(8|16|32|64)\b|\b(8|16|32|64)\b|\bsize_t|\busize", text)
     word = {"8": "16", "16": "32", "32": "64", "64": "8", "size_t": "uint64_t", "usize": "u64"}[match.group()]
     return replaced(text, match.start(), match.end(), word)
 
 
 # What is only read, and what is written.
-ACCESS = {"header": ("const uint8_t *", "uint8_t *"), "source": ("&[u8]", "&mut [u8]"), "host": ("*const u8", "*mut u8")}
+ACCESS = {
+    "header": ("const uint8_t *", "uint8_t *"),
+    "source": ("&[u8]", "&mut [u8]"),
+    "host": ("*const u8", "*mut u8"),
+    "table": ("(only read)", "(written)"),
+}
 
 
 def other_access(which, text):
     """The same pointer or slice, only read instead of written or the other way round; the same text if it is neither."""
-    if which not in ACCESS:
-        return text
     only_read, written = ACCESS[which]
     return text.replace(only_read, written) if only_read in text else text.replace(written, only_read)
 
@@ -259,12 +295,13 @@ def mutations_of(which, text, declaration):
     yield "rename", replaced(text, name.start, name.end, name.text + "x")
     if which == "table" and not parameters:
         yield "a number", replaced(text, name.end, name.end + len("` | none"), "` | extra (8)")
-    if declaration.result:
-        result = declaration.result
-        yield "result", replaced(text, result.start, result.end, other_width(result.text))
+    result = declaration.result
+    yield "result", replaced(text, result.start, result.end, other_width(result.text))
     for place, each in enumerate(parameters):
-        yield "width of %s" % each.text, replaced(text, each.start, each.end, other_width(each.text))
         access = other_access(which, each.text)
+        # The table gives a slice no width.
+        if which != "table" or access == each.text:
+            yield "width of %s" % each.text, replaced(text, each.start, each.end, other_width(each.text))
         if access != each.text:
             yield "access of %s" % each.text, replaced(text, each.start, each.end, access)
         label = re.match(r"\w+", each.text) if which != "header" else re.search(r"\w+$", each.text)
@@ -280,17 +317,23 @@ def mutations_of(which, text, declaration):
             yield "drop %s" % each.text, replaced(text, before, each.end, "" if place or which != "table" else "none")
 
 
-def mutations_of_lengths(which, text):
+def mutations_of_numbers(which, text):
     for name in STATED.get(which, ()):
-        for start, end in sum(lengths(which, text, name), []):
-            yield "length of %s" % name.lower(), replaced(text, start, end, str(int(text[start:end]) + 1))
+        for start, end in sum(places_of(which, text, name), []):
+            yield "%s is another" % name, replaced(text, start, end, str(int(text[start:end]) + 1))
+            yield "%s is none" % name, replaced(text, start, end, "")
+    for match in re.finditer(NAMED[which], text) if which in NAMED else ():
+        yield "name %s" % match.group(1), replaced(text, match.end(1), match.end(1), "X")
+        begin, end = text.rindex("\n", 0, match.start()), text.index("\n", match.end())
+        one_more = text[begin:match.end(1)] + "X" + text[match.end(1):end]
+        yield "one more beside %s" % match.group(1), replaced(text, end, end, one_more)
 
 
 def self_test(texts):
     tried, missed = 0, []
     for which in SOURCES:
         text = texts[which]
-        mutated = list(mutations_of_lengths(which, text))
+        mutated = list(mutations_of_numbers(which, text))
         for declaration in READERS[which](text):
             for what, changed in mutations_of(which, text, declaration):
                 mutated.append(("%s: %s" % (declaration.name.text, what), changed))
@@ -318,9 +361,9 @@ def main():
     if sys.argv[1:] == ["--self-test"]:
         tried, missed = self_test(texts)
         print("\n".join("not found: " + each for each in missed) or "each of %d changes is found" % tried)
-        sys.exit(1 if missed or tried < 500 else 0)
+        sys.exit(1 if missed or tried < 1400 else 0)
     functions = signatures("header", texts["header"])
-    print("%d functions and %d lengths agree in %s" % (len(functions), len(LENGTHS), ", ".join(SOURCES.values())))
+    print("%d functions and %d numbers agree in %s" % (len(functions), len(STATED["header"]), ", ".join(SOURCES.values())))
 
 
 main()

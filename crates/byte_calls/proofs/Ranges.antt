@@ -10,7 +10,7 @@ use lib.ListN.{length, getD, take, drop}
 use native.Mathlib.Omega.{arith}
 use borrow.Author.Tests.{eqb-true, ltb-true, ltb-false, leb-false}
 use Rattle.util.specs.Bytes.{AllBytes}
-use Rattle.util.proofs.Numbers.{byte-at}
+use Rattle.util.proofs.Numbers.{byte-at, take-bytes, drop-bytes}
 use Rattle.phy.specs.declared.Ifs.{Ifs}
 use Rattle.phy.specs.declared.LatestAckStart.{LatestAckStart}
 use Rattle.phy.specs.Phy.{ifsOf, latestAckStartOf}
@@ -113,17 +113,6 @@ CallIn (Call.Header arrived length) = Unit {0}
 CallIn (Call.Entered r entry) = ResultIn r
 CallIn (Call.Fallback r cause) = ResultIn r × CauseFits cause
 CallIn Call.Rollback = Unit {0}
-
--- ---- Bytes of the pool
-drop-bytes : (k : ℕ) (l : List ℕ) → AllBytes l → AllBytes (drop k l)
-drop-bytes zero l A = A
-drop-bytes (suc k) [] A = tt
-drop-bytes (suc k) (b ∷ l) A = drop-bytes k l (A .1)
-
-take-bytes : (k : ℕ) (l : List ℕ) → AllBytes l → AllBytes (take k l)
-take-bytes zero l A = tt
-take-bytes (suc k) [] A = tt
-take-bytes (suc k) (b ∷ l) A = (A .0, take-bytes k l (A .1))
 
 -- ---- Refusals
 refused-in : (s : State) (k : ℕ) → StateIn s → MoveIn (refusedOf s k)

@@ -30,6 +30,17 @@ byte-at [] A at = omega arith
 byte-at (b ∷ bytes) A zero = A .0
 byte-at (b ∷ bytes) A (suc at) = byte-at bytes (A .1) at
 
+-- a part of some bytes is bytes
+pub take-bytes : (k : ℕ) (bytes : List ℕ) → AllBytes bytes → AllBytes (take k bytes)
+take-bytes zero bytes A = tt
+take-bytes (suc k) [] A = tt
+take-bytes (suc k) (b ∷ bytes) A = (A .0, take-bytes k bytes (A .1))
+
+pub drop-bytes : (k : ℕ) (bytes : List ℕ) → AllBytes bytes → AllBytes (drop k bytes)
+drop-bytes zero bytes A = A
+drop-bytes (suc k) [] A = tt
+drop-bytes (suc k) (b ∷ bytes) A = drop-bytes k bytes (A .1)
+
 pub fits-bytes : FitsBytes
 unfolding numberAt
 fits-bytes bytes A at zero = omega arith

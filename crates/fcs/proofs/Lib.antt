@@ -1,0 +1,7 @@
+pub mod Bits
+pub mod Division
+pub mod ByTable
+pub mod Entry
+pub mod Check
+pub mod Pairs
+pub mod Found

@@ -1,0 +1,4 @@
+pub mod Fcs
+pub mod Table
+pub mod Check
+pub mod Laws

@@ -66,16 +66,15 @@ for form in pcap pcapng txt; do
     cmp "$out/lines" "$out/$form" || fail "small.$form: other lines from standard input"
 done
 
-# Right frames alone, no frame at all, and one that the capture cut.
+# Right frames alone, a capture without a frame, and one that the capture cut.
 head -n 2 "$small/small.txt" >"$out/right"
 checks "right frames" 0 "$out/right"
-printf '\n' >"$out/no-frame"
-checks "no frame" 0 "$out/no-frame"
 head -c 24 "$small/small.pcap" >"$out/header"
 checks "a header alone" 0 "$out/header"
 { head -c 36 "$small/small.pcap" && printf '\x32\0\0\0' && head -c 45 "$small/small.pcap" | tail -c 5; } >"$out/cut-frame"
 checks "a frame that was cut" 0 "$out/cut-frame"
 grep -q 'yes; 5 of 50 bytes captured$' "$out/lines" || fail "a frame that was cut: $(cat "$out/lines")"
+[ "$(tail -n 1 "$out/lines")" = "frames: 1, yes: 1, no: 0, refused: 0, of these cut: 1" ] || fail "the cut one is not counted"
 
 # A cut file: the second record begins at byte 45, and its frame at 61. The first frame is told and counted before.
 head -c 70 "$small/small.pcap" >"$out/cut.pcap"
@@ -101,6 +100,9 @@ linked 'link type 105 \(IEEE 802.11\)' '\x69'
 linked 'link type 230 \(IEEE 802.15.4 without FCS\)' '\xe6'
 checks "neither form" 2 README.md
 told "neither form" ': line 1, column 1: this is neither pcap, pcapng nor hexadecimal pairs$'
+printf '\n \r\n' >"$out/no-pair"
+checks "empty lines" 2 "$out/no-pair"
+told "empty lines" ': byte 0: this is neither pcap, pcapng nor hexadecimal pairs$'
 checks "an empty file" 2 /dev/null
 told "an empty file" empty
 checks "no such file" 2 "$out/missing"
@@ -109,11 +111,19 @@ checks "no argument" 2
 checks "two captures" 2 "$out/right" "$out/right"
 checks "an option that is not there" 2 --all
 
-# Who reads the lines may stop: the program ends without a word.
-for _ in $(seq 400); do cat "$small/small.txt"; done >"$out/long"
-"$program" "$out/long" 2>"$out/told" | head -n 1 >"$out/lines"
-status=${PIPESTATUS[0]}
-[ "$status" -eq 1 ] && [ ! -s "$out/told" ] || fail "a closed pipe: status $status, $(cat "$out/told")"
+# Who reads the lines may stop: the status is that of the whole capture all the same. Only the last frame is wrong, then cut off.
+for _ in $(seq 5000); do cat "$out/right"; done >"$out/long"
+stopped() {
+    "$program" "$out/long" 2>"$out/told" | head -n 1 >"$out/lines"
+    local status=${PIPESTATUS[0]}
+    [ "$status" -eq "$1" ] && [ "$(wc -l <"$out/told")" -eq $(($1 == 2)) ] ||
+        fail "a closed pipe: status $status, expected $1: $(cat "$out/told")"
+}
+stopped 0
+echo '02 00 6b e4 79' >>"$out/long"
+stopped 1
+echo '02 0' >>"$out/long"
+stopped 2
 # A full disk is no such thing.
 if [ -c /dev/full ]; then
     status=0

@@ -16,12 +16,13 @@ use std::io::{self, BufWriter, ErrorKind, Read, Write};
 use std::process::ExitCode;
 use widosha::Refusal;
 
-/// How many frames had which answer.
+/// How many frames had which answer, and of how many the capture did not keep all bytes.
 #[derive(Default)]
 struct Counts {
     yes: u64,
     no: u64,
     refused: u64,
+    cut: u64,
 }
 
 impl Counts {
@@ -31,6 +32,44 @@ impl Counts {
 
     fn status(&self) -> u8 {
         u8::from(self.no + self.refused > 0)
+    }
+
+    /// The closing line. Cut frames are named only if there are some.
+    fn line(&self) -> String {
+        let Counts { yes, no, refused, cut } = self;
+        let cut = if *cut > 0 {
+            format!(", of these cut: {cut}")
+        } else {
+            String::new()
+        };
+        format!("frames: {}, yes: {yes}, no: {no}, refused: {refused}{cut}", self.frames())
+    }
+}
+
+/// Where the lines go. Once nobody reads them they are dropped, and the frames are still counted, for the exit status.
+struct Lines<W: Write> {
+    out: W,
+    closed: bool,
+}
+
+impl<W: Write> Lines<W> {
+    fn write(&mut self, line: &str) -> io::Result<()> {
+        let written = if self.closed { Ok(()) } else { writeln!(self.out, "{line}") };
+        self.unless_closed(written)
+    }
+
+    fn flush(&mut self) -> io::Result<()> {
+        let flushed = if self.closed { Ok(()) } else { self.out.flush() };
+        self.unless_closed(flushed)
+    }
+
+    fn unless_closed(&mut self, result: io::Result<()>) -> io::Result<()> {
+        self.closed |= matches!(&result, Err(error) if error.kind() == ErrorKind::BrokenPipe);
+        if self.closed {
+            Ok(())
+        } else {
+            result
+        }
     }
 }
 
@@ -67,18 +106,21 @@ fn verdict(bytes: &[u8], counts: &mut Counts) -> String {
     }
 }
 
-/// What to say where the capture does not hold as many bytes as the frame had.
-fn cut(captured: usize, original: Option<u32>) -> String {
+/// What to say where the capture does not hold as many bytes as the frame had, counted.
+fn cut(captured: usize, original: Option<u32>, counts: &mut Counts) -> String {
     let Some(original) = original else { return String::new() };
     match usize::try_from(original) {
         Ok(original) if original == captured => String::new(),
         Ok(original) if original < captured => format!("; the capture says that it had {original}"),
-        _ => format!("; {captured} of {original} bytes captured"),
+        _ => {
+            counts.cut += 1;
+            format!("; {captured} of {original} bytes captured")
+        }
     }
 }
 
 /// A line for each frame, and the count. Damage is what ended the reading before the capture's end.
-fn check(file: &[u8], out: &mut impl Write, counts: &mut Counts) -> io::Result<Option<Damage>> {
+fn check(file: &[u8], lines: &mut Lines<impl Write>, counts: &mut Counts) -> io::Result<Option<Damage>> {
     let mut bytes = Vec::new();
     let mut damage = None;
     for next in Reader::new(file) {
@@ -93,13 +135,11 @@ fn check(file: &[u8], out: &mut impl Write, counts: &mut Counts) -> io::Result<O
         bytes.extend(frame.data);
         let verdict = verdict(&bytes, counts);
         let (number, place, length) = (counts.frames(), place(&frame), bytes.len());
-        let cut = cut(length, frame.original);
-        writeln!(out, "{number:>6}  {place:<12} length {length:>3}  {verdict}{cut}")?;
+        let cut = cut(length, frame.original, counts);
+        lines.write(&format!("{number:>6}  {place:<12} length {length:>3}  {verdict}{cut}"))?;
     }
-    let frames = counts.frames();
-    let Counts { yes, no, refused } = counts;
-    writeln!(out, "frames: {frames}, yes: {yes}, no: {no}, refused: {refused}")?;
-    out.flush()?;
+    lines.write(&counts.line())?;
+    lines.flush()?;
     Ok(damage)
 }
 
@@ -128,11 +168,11 @@ fn run(path: &OsStr) -> u8 {
         Err(error) => return complain(&format!("{name}: {error}")),
     };
     let mut counts = Counts::default();
-    match check(&file, &mut BufWriter::new(io::stdout().lock()), &mut counts) {
+    let out = BufWriter::new(io::stdout().lock());
+    let checked = check(&file, &mut Lines { out, closed: false }, &mut counts);
+    match checked {
         Ok(None) => counts.status(),
         Ok(Some(damage)) => complain(&format!("{name}: {damage}")),
-        // Who reads the lines has seen enough.
-        Err(error) if error.kind() == ErrorKind::BrokenPipe => counts.status(),
         Err(error) => complain(&format!("standard output: {error}")),
     }
 }

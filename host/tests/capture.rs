@@ -367,7 +367,7 @@ fn every_prefix() {
     all.extend((0..6).map(|_| pcapng(&mut rng, 2, 12)));
     let mut made = 0;
     for capture in &all {
-        // With fewer than four bytes the form is not known: each byte of a pcap's magic is no digit, and 0A is an empty line.
+        // With fewer than four bytes the form is not known: no byte of the magics is a digit.
         for length in (4..=capture.file.len()).step_by(stride()) {
             assert_prefix(capture, length);
             made += 1;
@@ -379,7 +379,9 @@ fn every_prefix() {
         (0xa1b2c3d4, 3),
         (0x4d3cb2a1, 2),
         (0x4d3cb2a1, 3),
+        (0x0a0d0d0a, 1),
         (0x0a0d0d0a, 2),
+        (0x0a0d0d0a, 3),
     ] {
         let (frames, damage) = read(&magic.to_be_bytes()[..length]);
         assert_eq!(
@@ -387,12 +389,11 @@ fn every_prefix() {
             (0, Some(Wrong::UnknownForm))
         );
     }
-    assert_eq!(read(&[0x0a]), (Vec::new(), None));
     println!("capture: {made} prefixes of pcap and pcapng");
 }
 
-/// Of a text that ends after so many bytes: it is damaged exactly if it ends inside a pair, or between CR and LF. Else the frames
-/// are those before, and the last one may be shorter.
+/// Of a text that ends after so many bytes: it is damaged exactly if it ends inside a pair, or between CR and LF, or has no pair yet.
+/// Else the frames are those before, and the last one may be shorter.
 #[test]
 fn every_prefix_of_text() {
     let mut rng = Rng::new(seed(52));
@@ -405,7 +406,7 @@ fn every_prefix_of_text() {
             let (frames, damage) = read(prefix);
             assert_eq!(
                 damage.is_some(),
-                digits % 2 == 1 || prefix.ends_with(b"\r"),
+                digits % 2 == 1 || prefix.ends_with(b"\r") || !prefix.iter().any(u8::is_ascii_hexdigit),
                 "{:?}",
                 prefix.escape_ascii().to_string()
             );
@@ -439,6 +440,16 @@ fn damage_of_pcap() {
         let header = |major, link_type| Capture::pcap_header(high_first, 0xa1b2c3d4, major, link_type).file;
         assert_damaged(&header(1, 195), 0, 0, Wrong::PcapVersion { major: 1, minor: 4 });
         assert_damaged(&header(0x0200, 195), 0, 0, Wrong::PcapVersion { major: 0x0200, minor: 4 });
+        for minor in 0..8u16 {
+            let mut file = header(2, 195);
+            file[6..8].copy_from_slice(&if high_first {
+                minor.to_be_bytes()
+            } else {
+                minor.to_le_bytes()
+            });
+            let old = Damage::at_byte(0, Wrong::PcapVersion { major: 2, minor });
+            assert_eq!(read(&file), (Vec::new(), (minor < 4).then_some(old)));
+        }
         for link_type in [0, 1, 105, 194, 196, 215, 230, 283, 0xc300] {
             assert_damaged(&header(2, link_type), 0, 0, Wrong::LinkType(link_type as u16));
         }
@@ -610,8 +621,8 @@ fn damage_of_text() {
         assert_eq!((frames.len(), damage), (before, Some(Damage { place, wrong })), "{shown}");
     }
     assert_damaged(b"", 0, 0, Wrong::Empty);
-    for without_frame in ["\n", "\r\n", " \t", "\n \n\t"] {
-        assert_eq!(read(without_frame.as_bytes()), (Vec::new(), None));
+    for without_pair in ["\n", "\r\n", " \t", "\n \n\t"] {
+        assert_damaged(without_pair.as_bytes(), 0, 0, Wrong::UnknownForm);
     }
 }
 

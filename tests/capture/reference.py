@@ -34,9 +34,9 @@ def checksum(message):
 def frames_of_pcap(data, order):
     if len(data) < 24:
         raise Damaged("byte 0")
-    major, = struct.unpack_from(order + "H", data, 4)
+    major, minor = struct.unpack_from(order + "HH", data, 4)
     field, = struct.unpack_from(order + "I", data, 20)
-    if major != 2 or field % 65536 != WITH_FCS:
+    if major != 2 or minor < 4 or field % 65536 != WITH_FCS:
         raise Damaged("byte 0")
     record = 24
     while record < len(data):
@@ -102,7 +102,7 @@ def frames_of_pcapng(data):
 
 
 def frames_of_text(data):
-    lines = data.split(b"\n")
+    lines, some = data.split(b"\n"), False
     for number, line in enumerate(lines, 1):
         if number < len(lines) and line.endswith(b"\r"):
             line = line[:-1]
@@ -111,8 +111,11 @@ def frames_of_text(data):
             raise Damaged("line %d, column %d" % (number, right + 1))
         pairs = re.sub(rb"[ \t]", b"", line)
         if pairs:
+            some = True
             frame = bytes.fromhex(pairs.decode())
             yield "line %d" % number, frame, len(frame)
+    if not some:
+        raise Damaged("byte 0")
 
 
 def frames(data):
@@ -140,19 +143,21 @@ def verdict(frame):
 
 def expected(data):
     """What the program owes: its lines, the place of damage or None, and its status."""
-    lines, counts, place = [], {"yes": 0, "no": 0, "refused": 0}, None
+    lines, counts, cut, place = [], {"yes": 0, "no": 0, "refused": 0}, 0, None
     try:
         for where, frame, original in frames(data):
             answer, words = verdict(frame)
             counts[answer] += 1
             if original > len(frame):
                 words += "; %d of %d bytes captured" % (len(frame), original)
+                cut += 1
             elif original < len(frame):
                 words += "; the capture says that it had %d" % original
             lines.append("%6d  %-12s length %3d  %s" % (len(lines) + 1, where, len(frame), words))
     except Damaged as damaged:
         place = damaged.args[0]
-    lines.append("frames: %d, yes: %d, no: %d, refused: %d" % ((len(lines),) + tuple(counts.values())))
+    closing = "frames: %d, yes: %d, no: %d, refused: %d" % ((len(lines),) + tuple(counts.values()))
+    lines.append(closing + (", of these cut: %d" % cut if cut else ""))
     status = 2 if place else 1 if counts["no"] + counts["refused"] else 0
     return lines, place, status
 

@@ -14,7 +14,7 @@ use lib.Seq.{getD-drop, take-append-seam, drop-append-seam}
 use Rattle.util.specs.Bytes.{bytesOf}
 use Rattle.fcs.specs.declared.FcsCheck.{FcsCheck}
 use Rattle.fcs.specs.Fcs.{fcsOf, fcsFrom, fcsBytes}
-use Rattle.fcs.specs.Check.{unfit, lastTwo, restOf, sameTwo, endsInOwn, checkOf, checkNumber, FcsChecked}
+use Rattle.fcs.specs.Check.{unfitLength, lastTwo, restOf, sameTwo, endsInOwnFcs, checkOf, checkNumber, FcsChecked}
 use Rattle.fcs.specs.Laws.{MarkedRow, RefusedExactly, YesExactly, OwnChecksumIsRight}
 use Rattle.fcs.proofs.ByTable.{both-left, both-right}
 
@@ -31,19 +31,19 @@ said own = cond own FcsCheck.Yes FcsCheck.No
 pub too-short : (frame : List ℕ) → length frame < 3 → checkOf frame ≡ FcsCheck.Refused
 unfolding checkOf
 too-short frame h =
-    ap (λ (b : Bool). cond (b || ltb 127 (length frame)) FcsCheck.Refused (said (endsInOwn frame))) (lt-ltb (length frame) 3 h)
+    ap (λ (b : Bool). cond (b || ltb 127 (length frame)) FcsCheck.Refused (said (endsInOwnFcs frame))) (lt-ltb (length frame) 3 h)
 
 -- a frame that is not too short, by whether it is too long
 by-end : (frame : List ℕ) → 3 ≤ length frame → (long : Bool) → ltb 127 (length frame) ≡ long
-    → checkOf frame ≡ cond long FcsCheck.Refused (said (endsInOwn frame))
+    → checkOf frame ≡ cond long FcsCheck.Refused (said (endsInOwnFcs frame))
 unfolding checkOf
 by-end frame h long e =
-    ap₂ (λ (b c : Bool). cond (b || c) FcsCheck.Refused (said (endsInOwn frame))) (le-ltb (length frame) 3 h) e
+    ap₂ (λ (b c : Bool). cond (b || c) FcsCheck.Refused (said (endsInOwnFcs frame))) (le-ltb (length frame) 3 h) e
 
 pub too-long : (frame : List ℕ) → 127 < length frame → checkOf frame ≡ FcsCheck.Refused
 too-long frame h = by-end frame (omega arith) true (lt-ltb 127 (length frame) h)
 
-pub taken : (frame : List ℕ) → 3 ≤ length frame → length frame ≤ 127 → checkOf frame ≡ said (endsInOwn frame)
+pub taken : (frame : List ℕ) → 3 ≤ length frame → length frame ≤ 127 → checkOf frame ≡ said (endsInOwnFcs frame)
 taken frame h k = by-end frame h false (le-ltb 127 (length frame) k)
 
 -- the answer, by the parts that the code works out one after the other
@@ -63,7 +63,7 @@ by-parts frame h k {rest} {sent} {fcs} {low} {high} r f s l g =
     ∙ ap₂ (λ (a b : ℕ). said (eqb a (getD sent 0 0) && eqb b (getD sent 1 0))) first second
 
 -- the number goes with the case
-number-of : (unfit own : Bool) → checkNumber (cond unfit FcsCheck.Refused (said own)) ≡ cond unfit 14 (cond own 0 255)
+number-of : (unfitLength own : Bool) → checkNumber (cond unfitLength FcsCheck.Refused (said own)) ≡ cond unfitLength 14 (cond own 0 255)
 unfolding checkNumber
 number-of true own = refl
 number-of false true = refl
@@ -71,7 +71,7 @@ number-of false false = refl
 
 pub checked : (frame : List ℕ) (r : FcsCheck) → r ≡ checkOf frame → FcsChecked frame r
 unfolding checkOf
-checked frame r e = record { case = e; number = ap checkNumber e ∙ number-of (unfit frame) (endsInOwn frame) }
+checked frame r e = record { case = e; number = ap checkNumber e ∙ number-of (unfitLength frame) (endsInOwnFcs frame) }
 
 -- ---- When it is refused, and when it is yes
 
@@ -94,7 +94,7 @@ refused-exactly frame = (
       (λ h.
       ⊎-elim
       inr
-      (λ k. absurd (not-refused (endsInOwn frame) (sym (ap checkNumber (taken frame h k)) ∙ e)))
+      (λ k. absurd (not-refused (endsInOwnFcs frame) (sym (ap checkNumber (taken frame h k)) ∙ e)))
       (below-or-not 127 (length frame)))
       (below-or-not (length frame) 3),
   ⊎-elim (λ h. ap checkNumber (too-short frame h)) (λ h. ap checkNumber (too-long frame h)),
@@ -124,7 +124,7 @@ yes-exactly frame h k =
     let ends = lastTwo frame in
     let own = fcsBytes (restOf frame) in
     let two : length ends ≡ 2 = length-drop (length frame - 2) frame ∙ omega arith in (
-      λ e. two-same ends own two refl (said-yes (endsInOwn frame) (sym (ap checkNumber (taken frame h k)) ∙ e)),
+      λ e. two-same ends own two refl (said-yes (endsInOwnFcs frame) (sym (ap checkNumber (taken frame h k)) ∙ e)),
       λ e. ap checkNumber (taken frame h k ∙ ap said (ap (λ (l : List ℕ). sameTwo l own) e ∙ same-two own)),
     )
 

@@ -15,7 +15,7 @@ use Rattle.util.proofs.Numbers.{take-bytes}
 use Rattle.fcs.specs.declared.FcsCheck.{FcsCheck}
 use Rattle.fcs.specs.Fcs.{fcsOf, fcsBytes}
 use Rattle.fcs.specs.Table.{fcsTable, tableStep, byTable}
-use Rattle.fcs.specs.Check.{lastTwo, restOf, endsInOwn, checkOf, checkNumber}
+use Rattle.fcs.specs.Check.{lastTwo, restOf, endsInOwnFcs, checkOf, checkNumber}
 use Rattle.fcs.specs.Laws.{OneWrongByteIsFound}
 use Rattle.fcs.proofs.ByTable.{at, from-fits, table-byte, table-agrees}
 use Rattle.fcs.proofs.Pairs.{bytes-assoc}
@@ -146,7 +146,7 @@ one-wrong-byte-is-found frame A e place wrong h k differs =
     let bounds = yes-taken frame e in
     let long = length-set frame place wrong in
     not-yes
-    (endsInOwn other)
+    (endsInOwnFcs other)
     (checkOf other)
     (taken other (omega (arith, bounds .0)) (omega (arith, bounds .1)))
     (λ yes. differs

@@ -62,7 +62,7 @@ impl fmt::Display for Wrong {
             Wrong::UnknownForm => write!(f, "this is neither pcap, pcapng nor hexadecimal pairs"),
             Wrong::NotAPair => write!(f, "neither a hexadecimal pair nor a blank"),
             Wrong::HeaderCut { there } => write!(f, "the pcap header is cut off: {there} of 24 bytes are there"),
-            Wrong::PcapVersion { major, minor } => write!(f, "pcap version {major}.{minor}; only 2.x is read"),
+            Wrong::PcapVersion { major, minor } => write!(f, "pcap version {major}.{minor}; only 2.4 and later 2.x are read"),
             Wrong::PcapngVersion { major, minor } => write!(f, "pcapng version {major}.{minor}; only 1.x is read"),
             Wrong::LinkType(number) => {
                 let (name, only) = (link_type_name(number), IEEE802_15_4_WITHFCS);

@@ -7,7 +7,7 @@ pub struct Hex<'a> {
     input: Input<'a>,
     /// The number of the line that was taken last; the first is 1.
     line: usize,
-    /// Whether some pair was read. A text without any is called what it is: of no form that is known.
+    /// Whether some pair was read. A text without any, also one of empty lines alone, is of no form that is known.
     some_pair: bool,
 }
 
@@ -44,7 +44,11 @@ impl<'a> Hex<'a> {
                 }));
             }
         }
-        Ok(None)
+        if self.some_pair {
+            Ok(None)
+        } else {
+            Err(Damage::at_byte(0, Wrong::UnknownForm))
+        }
     }
 
     /// Takes a line with its end, LF or CRLF, which the last one need not have. Gives it without the end.

@@ -28,7 +28,8 @@ impl<'a> Pcap<'a> {
         // four.
         let [_, _, _, _, m0, m1, n0, n1, .., l0, l1, l2, l3] = header;
         let (major, minor) = (order.u16([m0, m1]), order.u16([n0, n1]));
-        if major != 2 {
+        // Before 2.4 the two lengths of a record may stand the other way round.
+        if major != 2 || minor < 4 {
             return Err(Damage::at_byte(0, Wrong::PcapVersion { major, minor }));
         }
         let link_type = (order.u32([l0, l1, l2, l3]) & 0xffff) as u16;

@@ -2,16 +2,19 @@
 //! process.
 //!
 //!     fcs                  times of both, in turns
+//!     fcs --lengths        the same for each length of a frame by itself; prints the ratios of some groups of lengths
 //!     fcs --count KIND     each side of one kind once, for a counter of instructions, which bench/fcs.sh sets upon a function;
 //!                          prints how many frames and bytes there are
 
-use std::{hint::black_box, time::Instant};
+use std::{hint::black_box, ops::RangeInclusive, time::Instant};
 
 const FRAMES: usize = 4096;
 const LONG: usize = 1 << 20;
 const REPEATS: usize = 31;
 /// Bytes that each run of a side is to go through, in as many rounds as it takes.
 const BYTES_OF_RUN: usize = 1 << 22;
+/// The same for one length among many.
+const BYTES_OF_LENGTH: usize = 1 << 19;
 const REFUSED: u8 = 14;
 const NO: u8 = 255;
 
@@ -179,15 +182,21 @@ fn timed(run: Run, frames: &[Vec<u8>], rounds: usize) -> f64 {
     start.elapsed().as_nanos() as f64 / rounds as f64
 }
 
+/// Nanoseconds of the two sides for all frames once: the time that other programs on the machine disturbed least. The two take
+/// turns, so that both see the same machine.
+fn in_turns(ours: Run, plain: Run, frames: &[Vec<u8>], rounds: usize) -> (f64, f64) {
+    let mut least = (f64::INFINITY, f64::INFINITY);
+    for _ in 0..REPEATS {
+        least.0 = least.0.min(timed(ours, frames, rounds));
+        least.1 = least.1.min(timed(plain, frames, rounds));
+    }
+    least
+}
+
 fn measure(kind: &Kind) {
     let bytes: usize = kind.frames.iter().map(Vec::len).sum();
     let rounds = BYTES_OF_RUN.div_ceil(bytes);
-    // The time that other programs on the machine disturbed least. The two take turns, so that both see the same machine.
-    let (mut ours, mut plain) = (f64::INFINITY, f64::INFINITY);
-    for _ in 0..REPEATS {
-        ours = ours.min(timed(kind.ours, &kind.frames, rounds));
-        plain = plain.min(timed(kind.plain, &kind.frames, rounds));
-    }
+    let (ours, plain) = in_turns(kind.ours, kind.plain, &kind.frames, rounds);
     let count = kind.frames.len();
     println!(
         "{}: {bytes} bytes, slices: {count}; the fastest of {REPEATS} runs of {rounds} rounds",
@@ -203,6 +212,27 @@ fn measure(kind: &Kind) {
     println!("  ratio {:.2}", ours / plain);
 }
 
+/// The least and the greatest ratio of the lengths in a group, of checksum and check.
+fn measure_lengths(random: &mut Random, lengths: RangeInclusive<usize>) {
+    let mut ratios = [(f64::INFINITY, 0.0f64); 2];
+    for length in lengths.clone() {
+        let frames = frames(random, length, length);
+        compare(&frames);
+        let rounds = BYTES_OF_LENGTH.div_ceil(FRAMES * length);
+        let sides: [(Run, Run); 2] = [(fcs_ours, fcs_plain), (check_ours, check_plain)];
+        for ((ours, plain), (least, greatest)) in sides.into_iter().zip(&mut ratios) {
+            let (ours, plain) = in_turns(ours, plain, &frames, rounds);
+            (*least, *greatest) = (least.min(ours / plain), greatest.max(ours / plain));
+        }
+    }
+    let [checksum, check] = ratios.map(|(least, greatest)| format!("{least:.2} to {greatest:.2}"));
+    println!(
+        "{:3} to {:3} bytes: checksum {checksum}, check {check}",
+        lengths.start(),
+        lengths.end()
+    );
+}
+
 fn main() {
     let arguments: Vec<String> = std::env::args().skip(1).collect();
     let kinds = kinds();
@@ -211,6 +241,12 @@ fn main() {
     }
     match arguments.iter().map(String::as_str).collect::<Vec<_>>()[..] {
         [] => kinds.iter().for_each(measure),
+        ["--lengths"] => {
+            let mut random = Random(0x1234_5678_9ABC_DEF1);
+            for lengths in [3..=3, 4..=4, 5..=5, 6..=9, 10..=19, 20..=95, 96..=97, 98..=111, 112..=127] {
+                measure_lengths(&mut random, lengths);
+            }
+        }
         ["--count", name] => {
             let kind = kinds
                 .iter()
@@ -220,6 +256,6 @@ fn main() {
             assert_eq!(answers[0], answers[1], "the two disagree");
             println!("{} {}", kind.frames.len(), kind.frames.iter().map(Vec::len).sum::<usize>());
         }
-        _ => panic!("usage: fcs [--count KIND]"),
+        _ => panic!("usage: fcs [--lengths | --count KIND]"),
     }
 }

@@ -12,6 +12,8 @@ fi
 mkdir -p "$out"
 "${RUSTC:-rustc}" --edition 2021 bench/fcs.rs -C opt-level=3 -C codegen-units=1 -L "$folder" -l static=frame_c -o "$out/fcs"
 "$out/fcs"
+echo "the ratios of one length at a time:"
+"$out/fcs" --lengths
 
 if ! command -v valgrind >/dev/null; then
     echo "instructions were not counted: valgrind is missing"

@@ -25,12 +25,13 @@ ANSWERS = {
     "long": {REFUSED},
     "one byte": {REFUSED},
     "two bytes": {REFUSED},
+    "zeros before": {NO},
     "every checksum": {YES, NO},
     "right": {YES, REFUSED},
     "one bit wrong": {NO, REFUSED},
     "random": {NO, REFUSED},
 }
-MADE = ("one byte", "two bytes", "every length", "long", "right", "one bit wrong")
+MADE = ("one byte", "two bytes", "zeros before", "every length", "long", "right", "one bit wrong")
 
 
 def with_fcs(message):
@@ -53,10 +54,14 @@ def random_frames(source):
 
 
 def short_frames():
+    """All messages of one and two bytes; the latter with as many zeros before them as the longest frame has place for too, which
+    changes no checksum, as the start value is zero."""
     for byte in range(256):
         yield "one byte", bytes([byte])
     for number in range(65_536):
         yield "two bytes", number.to_bytes(2, "big")
+    for number in range(1, 65_536):
+        yield "zeros before", bytes(125) + number.to_bytes(2, "big")
     for number in range(65_536):
         yield "every checksum", b"\x02\x00\x6a" + number.to_bytes(2, "big")
 

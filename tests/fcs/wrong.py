@@ -29,6 +29,15 @@ def other_terms(mask):
     return by_table(table)
 
 
+def from_length(least, rule):
+    """Another rule for so many bytes or more; the library has two ways, one for short slices and one for long."""
+    return lambda data: (rule if len(data) >= least else fcs)(data)
+
+
+def below_length(limit, rule):
+    return lambda data: (rule if len(data) < limit else fcs)(data)
+
+
 def checked(rule=fcs, least=3, most=127, compared=slice(0, 2)):
     """The check with another rule, with other lengths, or with some bytes of the checksum compared alone."""
     def verdict(frame):
@@ -59,6 +68,12 @@ CHECKSUMS = {
     "terms 16, 12 and 0": other_terms(0x8008),
     **{"entry %d" % place: wrong_entry(place) for place in (0, 1, 106, 255)},
 }
+# These are wrong at some lengths only.
+CHECKSUMS_BY_LENGTH = {
+    "entry 106 from 96 bytes on": from_length(96, wrong_entry(106)),
+    "entry 106 below 96 bytes": below_length(96, wrong_entry(106)),
+    "terms 16, 12, 6 and 0 from 125 bytes on": from_length(125, other_terms(0x8208)),
+}
 # These are right for every frame that the check takes.
 CHECKSUMS_OF_LONG = {
     "125 bytes at most": lambda data: fcs(data[:125]),
@@ -67,7 +82,7 @@ CHECKSUMS_OF_LONG = {
     "length in 16 bits": lambda data: fcs(data[:len(data) & 0xFFFF]),
 }
 CHECKS = {
-    **{"in the check: %s" % what: checked(rule) for what, rule in CHECKSUMS.items()},
+    **{"in the check: %s" % what: checked(rule) for what, rule in {**CHECKSUMS, **CHECKSUMS_BY_LENGTH}.items()},
     "2 bytes taken": checked(least=2),
     "3 bytes refused": checked(least=4),
     "127 bytes refused": checked(most=126),
@@ -84,6 +99,6 @@ CHECKS = {
 }
 # Name to the two rules, one of which is wrong.
 WRONG = {
-    **{what: (rule, check) for what, rule in {**CHECKSUMS, **CHECKSUMS_OF_LONG}.items()},
+    **{what: (rule, check) for what, rule in {**CHECKSUMS, **CHECKSUMS_BY_LENGTH, **CHECKSUMS_OF_LONG}.items()},
     **{what: (fcs, verdict) for what, verdict in CHECKS.items()},
 }

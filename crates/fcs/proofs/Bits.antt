@@ -6,11 +6,58 @@ use mathlib.Core.Bool.{Bool, true, false, xor}
 use mathlib.Core.List.{List, [], _∷_}
 use native.Mathlib.Nat.{le-of-suc-le-suc, not-suc-le-zero}
 use native.Mathlib.Omega.{arith}
-use lib.Bits.{bitXor, differ, xor-step, xor-zero-r, xor-shr, xor-mod}
+use lib.Arith.{bin-ind}
+use lib.Bits.{bitXor, differ, xor-step, xor-zero-r, xor-comm, xor-shr, xor-mod}
 use lib.Dec.{eqb}
 use lib.ListN.{length}
 use Rattle.util.specs.Bytes.{flagNumber}
 use Rattle.fcs.specs.Fcs.{minus, bitsOf, numberOf}
+
+-- ---- Exclusive or: in which order it is taken makes no difference
+
+differ-below : (a b : ℕ) → a < 2 → b < 2 → differ a b < 2
+differ-below zero b h k = k
+differ-below (suc zero) zero h k = h
+differ-below (suc zero) (suc zero) h k = omega arith
+differ-below (suc zero) (suc (suc b)) h k = absurd (omega arith)
+differ-below (suc (suc a)) b h k = absurd (omega arith)
+
+lowest-differ : (a b : ℕ) → bitXor a b % 2 ≡ differ (a % 2) (b % 2)
+lowest-differ a b =
+    let below = differ-below (a % 2) (b % 2) (omega arith) (omega arith) in
+    ap (λ (n : ℕ). n % 2) (xor-step a b) ∙ omega (arith, below)
+
+differ-assoc : (a b c : ℕ) → a < 2 → b < 2 → c < 2 → differ (differ a b) c ≡ differ a (differ b c)
+differ-assoc zero b c f g h = refl
+differ-assoc (suc zero) zero c f g h = refl
+differ-assoc (suc zero) (suc zero) zero f g h = refl
+differ-assoc (suc zero) (suc zero) (suc zero) f g h = refl
+differ-assoc (suc zero) (suc zero) (suc (suc c)) f g h = absurd (omega arith)
+differ-assoc (suc zero) (suc (suc b)) c f g h = absurd (omega arith)
+differ-assoc (suc (suc a)) b c f g h = absurd (omega arith)
+
+pub xor-assoc : (a b c : ℕ) → bitXor (bitXor a b) c ≡ bitXor a (bitXor b c)
+xor-assoc =
+    bin-ind
+    (λ (n : ℕ). (b c : ℕ) → bitXor (bitXor n b) c ≡ bitXor n (bitXor b c))
+    (λ b c. refl)
+    (λ n rest b c.
+    xor-step (bitXor n b) c
+    ∙ ap₂
+    (λ (m d : ℕ). m * 2 + d)
+    (ap (λ (m : ℕ). bitXor m (c / 2)) (xor-shr n b 1) ∙ rest (b / 2) (c / 2) ∙ ap (bitXor (n / 2)) (sym (xor-shr b c 1)))
+    (ap (λ (d : ℕ). differ d (c % 2)) (lowest-differ n b)
+    ∙ differ-assoc (n % 2) (b % 2) (c % 2) (omega arith) (omega arith) (omega arith)
+    ∙ ap (differ (n % 2)) (sym (lowest-differ b c)))
+    ∙ sym (xor-step n (bitXor b c)))
+
+pub xor-exchange : (a b c d : ℕ) → bitXor (bitXor a b) (bitXor c d) ≡ bitXor (bitXor a c) (bitXor b d)
+xor-exchange a b c d =
+    xor-assoc a b (bitXor c d)
+    ∙ ap (bitXor a) (sym (xor-assoc b c d) ∙ ap (λ (n : ℕ). bitXor n d) (xor-comm b c) ∙ xor-assoc c b d)
+    ∙ sym (xor-assoc a c (bitXor b d))
+
+-- ---- Bits and numbers
 
 half : (x : Bool) (n : ℕ) → (flagNumber x + 2 * n) / 2 ≡ n
 half true n = omega arith

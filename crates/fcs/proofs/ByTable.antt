@@ -105,6 +105,14 @@ pub table-agrees : TableAgrees
 unfolding fcsOf
 table-agrees bytes A = table-from 0 bytes (omega arith) A
 
+-- bytes before others, more than one
+pub from-append : (start : ℕ) (xs ys : List ℕ) → start < 2 ^ 16 → fcsFrom start (xs ++ ys) ≡ fcsFrom (fcsFrom start xs) ys
+from-append start [] ys h = ap (λ (n : ℕ). fcsFrom n ys) (sym (from-none start h))
+from-append start (x ∷ xs) ys h =
+    from-cons start x (xs ++ ys)
+    ∙ from-append (fcsFrom start (x ∷ [])) xs ys (from-fits start (x ∷ []))
+    ∙ ap (λ (n : ℕ). fcsFrom n ys) (sym (from-cons start x xs))
+
 -- the bytes from a place on: the one there, and those after it
 pub from-place : (start : ℕ) (bytes : List ℕ) (i : ℕ) → i < length bytes
     → fcsFrom start (drop i bytes) ≡ fcsFrom (fcsFrom start (getD bytes i 0 ∷ [])) (drop (i + 1) bytes)

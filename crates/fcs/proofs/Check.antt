@@ -1,13 +1,13 @@
 -- The check: its answer, when it is refused and when it is yes, and a frame that ends with its own checksum.
 -- Assumes nothing.
-use Prim.Native.Nat.{ℕ, zero, suc, _+_, _-_, _≤_, _<_, zero-le}
-use mathlib.Core.Path.{_≡_, refl, sym, _∙_, ap, ap₂}
+use Prim.Native.Nat.{ℕ, zero, suc, _+_, _*_, _-_, _/_, _%_, _^_, _≤_, _<_, zero-le}
+use mathlib.Core.Path.{_≡_, refl, sym, _∙_, ap, ap₂, subst, subst⁻¹}
 use mathlib.Core.Logic.{_⊎_, inl, inr, ⊎-elim}
 use mathlib.Core.Bool.{Bool, true, false, cond, _&&_, _||_, xor}
 use mathlib.Core.List.{List, [], _∷_, _++_}
 use native.Mathlib.Nat.{add-zero}
 use native.Mathlib.Omega.{arith}
-use borrow.Author.Tests.{lt-ltb, le-ltb, eq-eqb}
+use borrow.Author.Tests.{lt-ltb, le-ltb, eq-eqb, ne-eqb}
 use lib.Dec.{T, eqb, ltb, eqb→eq}
 use lib.ListN.{length, getD, take, drop, length-append, length-drop}
 use lib.Seq.{getD-drop, take-append-seam, drop-append-seam}
@@ -16,7 +16,7 @@ use Rattle.fcs.specs.declared.FcsCheck.{FcsCheck}
 use Rattle.fcs.specs.Fcs.{fcsOf, fcsFrom, fcsBytes}
 use Rattle.fcs.specs.Check.{unfitLength, lastTwo, restOf, sameTwo, endsInOwnFcs, checkOf, checkNumber, FcsChecked}
 use Rattle.fcs.specs.Laws.{MarkedRow, RefusedExactly, YesExactly, OwnChecksumIsRight}
-use Rattle.fcs.proofs.ByTable.{both-left, both-right}
+use Rattle.fcs.proofs.ByTable.{both-left, both-right, from-fits}
 
 pub marked-row : MarkedRow
 unfolding fcsBytes fcsOf fcsFrom xor
@@ -25,7 +25,7 @@ marked-row = refl
 -- ---- The answer
 
 -- what the check says of a frame that it does not refuse
-abbrev said : Bool → FcsCheck
+abbrev pub said : Bool → FcsCheck
 said own = cond own FcsCheck.Yes FcsCheck.No
 
 pub too-short : (frame : List ℕ) → length frame < 3 → checkOf frame ≡ FcsCheck.Refused
@@ -46,21 +46,38 @@ too-long frame h = by-end frame (omega arith) true (lt-ltb 127 (length frame) h)
 pub taken : (frame : List ℕ) → 3 ≤ length frame → length frame ≤ 127 → checkOf frame ≡ said (endsInOwnFcs frame)
 taken frame h k = by-end frame h false (le-ltb 127 (length frame) k)
 
+-- two bytes are those of a number exactly if they make that number
+same-number : (low high n : ℕ) → low < 256 → high < 256 → n < 2 ^ 16
+    → (l h : Bool) → eqb low (n % 256) ≡ l → eqb high (n / 256 % 256) ≡ h → eqb (low + 256 * high) n ≡ (l && h)
+same-number low high n f g k true true e d =
+    let first = eqb→eq low (n % 256) (subst⁻¹ T e tt) in
+    let second = eqb→eq high (n / 256 % 256) (subst⁻¹ T d tt) in
+    eq-eqb (low + 256 * high) n (omega arith)
+same-number low high n f g k true false e d =
+    ne-eqb (low + 256 * high) n (λ same. absurd (subst T (sym (eq-eqb high (n / 256 % 256) (omega arith)) ∙ d) tt))
+same-number low high n f g k false h e d =
+    ne-eqb (low + 256 * high) n (λ same. absurd (subst T (sym (eq-eqb low (n % 256) (omega arith)) ∙ e) tt))
+
 -- the answer, by the parts that the code works out one after the other
 pub by-parts : (frame : List ℕ) → 3 ≤ length frame → length frame ≤ 127
-    → {rest sent : List ℕ} {fcs low high : ℕ}
-    → rest ≡ restOf frame → fcs ≡ fcsOf rest → sent ≡ bytesOf 2 fcs
-    → low ≡ getD frame (length frame - 2) 0 → high ≡ getD frame (length frame - 2 + 1) 0
-    → checkOf frame ≡ said (eqb low (getD sent 0 0) && eqb high (getD sent 1 0))
-unfolding fcsBytes
-by-parts frame h k {rest} {sent} {fcs} {low} {high} r f s l g =
+    → {right word : ℕ}
+    → right ≡ fcsOf (restOf frame)
+    → getD frame (length frame - 2) 0 < 256 → getD frame (length frame - 2 + 1) 0 < 256
+    → word ≡ getD frame (length frame - 2) 0 + 256 * getD frame (length frame - 2 + 1) 0
+    → checkOf frame ≡ said (eqb word right)
+unfolding fcsBytes fcsOf
+by-parts frame h k {right} {word} r low-fits high-fits w =
     let n = length frame - 2 in
-    let own : fcsBytes (restOf frame) ≡ sent = ap fcsBytes (sym r) ∙ ap (bytesOf 2) (sym f) ∙ sym s in
-    let first : getD (lastTwo frame) 0 0 ≡ low = getD-drop n frame 0 0 ∙ ap (λ (k : ℕ). getD frame k 0) (add-zero n) ∙ sym l in
-    let second : getD (lastTwo frame) 1 0 ≡ high = getD-drop n frame 1 0 ∙ sym g in
+    let low = getD frame n 0 in
+    let high = getD frame (n + 1) 0 in
+    let first : getD (lastTwo frame) 0 0 ≡ low = getD-drop n frame 0 0 ∙ ap (λ (k : ℕ). getD frame k 0) (add-zero n) in
+    let second : getD (lastTwo frame) 1 0 ≡ high = getD-drop n frame 1 0 in
+    let fits : right < 2 ^ 16 = subst⁻¹ (λ (m : ℕ). m < 2 ^ 16) r (from-fits 0 (restOf frame)) in
     taken frame h k
-    ∙ ap (λ (ys : List ℕ). said (sameTwo (lastTwo frame) ys)) own
-    ∙ ap₂ (λ (a b : ℕ). said (eqb a (getD sent 0 0) && eqb b (getD sent 1 0))) first second
+    ∙ ap (λ (m : ℕ). said (sameTwo (lastTwo frame) (bytesOf 2 m))) (sym r)
+    ∙ ap₂ (λ (a b : ℕ). said (eqb a (right % 256) && eqb b (right / 256 % 256))) first second
+    ∙ ap said (sym (same-number low high right low-fits high-fits fits (eqb low (right % 256)) (eqb high (right / 256 % 256)) refl refl))
+    ∙ ap (λ (m : ℕ). said (eqb m right)) (sym w)
 
 -- the number goes with the case
 number-of : (unfitLength own : Bool) → checkNumber (cond unfitLength FcsCheck.Refused (said own)) ≡ cond unfitLength 14 (cond own 0 255)

@@ -18,7 +18,7 @@ use Rattle.fcs.specs.Table.{fcsTable, tableStep, byTable}
 use Rattle.fcs.specs.Check.{lastTwo, restOf, endsInOwnFcs, checkOf, checkNumber}
 use Rattle.fcs.specs.Laws.{OneWrongByteIsFound}
 use Rattle.fcs.proofs.ByTable.{at, from-fits, table-byte, table-agrees}
-use Rattle.fcs.proofs.Pairs.{bytes-assoc}
+use Rattle.fcs.proofs.Bits.{xor-assoc}
 use Rattle.fcs.proofs.Check.{too-short, too-long, taken, below-or-not, yes-exactly}
 
 -- the place of the first entry, counted from k on, that has this high byte
@@ -37,11 +37,11 @@ high-bytes i j h k e =
     = λ p l. eqb→eq (place-of 0 (getD fcsTable p 0 / 256) fcsTable) p (at own-place fcsTable tt p l) in
     sym (found i h) ∙ ap (λ (v : ℕ). place-of 0 v fcsTable) e ∙ found j k
 
-cancel : (a x y : ℕ) → a < 256 → x < 256 → y < 256 → bitXor a x ≡ bitXor a y → x ≡ y
-cancel a x y f g h e =
-    let back : (z : ℕ) → z < 256 → bitXor a (bitXor a z) ≡ z
-    = λ z l. sym (bytes-assoc a a z f f l) ∙ ap (λ (n : ℕ). bitXor n z) (xor-self a) in
-    sym (back x g) ∙ ap (bitXor a) e ∙ back y h
+cancel : (a x y : ℕ) → bitXor a x ≡ bitXor a y → x ≡ y
+cancel a x y e =
+    let back : (z : ℕ) → bitXor a (bitXor a z) ≡ z
+    = λ z. sym (xor-assoc a a z) ∙ ap (λ (n : ℕ). bitXor n z) (xor-self a) in
+    sym (back x) ∙ ap (bitXor a) e ∙ back y
 
 -- the same step from two registers: the places are the same, and so are the high bytes of the registers
 same-step : (r s b c : ℕ) → r < 2 ^ 16 → s < 2 ^ 16 → b < 256 → c < 256 → tableStep r b ≡ tableStep s c
@@ -64,7 +64,7 @@ same-step r s b c f g h k e =
     ∙ ap (λ (n : ℕ). bitXor (r / 256) (getD fcsTable n 0) % 256) (sym places)
     ∙ ap (λ (n : ℕ). n % 256) e
     ∙ low s entry g in
-    (places, cancel (entry % 256) (r / 256) (s / 256) (omega arith) (omega arith) (omega arith) lows)
+    (places, cancel (entry % 256) (r / 256) (s / 256) lows)
 
 step-fits : (r b : ℕ) → r < 2 ^ 16 → b < 256 → tableStep r b < 2 ^ 16
 step-fits r b f h = subst⁻¹ (λ (n : ℕ). n < 2 ^ 16) (table-byte r b f h) (from-fits r (b ∷ []))
@@ -77,7 +77,7 @@ same-start r s (b ∷ bytes) f g A e =
     let before = same-start (tableStep r b) (tableStep s b) bytes (step-fits r b f (A .0)) (step-fits s b g (A .0)) (A .1) e in
     let same = same-step r s b b f g (A .0) (A .0) before in
     let swapped : bitXor b (r % 256) ≡ bitXor b (s % 256) = xor-comm b (r % 256) ∙ same .0 ∙ xor-comm (s % 256) b in
-    let low = cancel b (r % 256) (s % 256) (A .0) (omega arith) (omega arith) swapped in
+    let low = cancel b (r % 256) (s % 256) swapped in
     let high = same .1 in
     omega arith
 
@@ -88,7 +88,7 @@ unfolding byTable
 same-byte r [] place wrong f A h k e = absurd (not-suc-le-zero h)
 same-byte r (b ∷ bytes) zero wrong f A h k e =
     let before = same-start (tableStep r wrong) (tableStep r b) bytes (step-fits r wrong f k) (step-fits r b f (A .0)) (A .1) e in
-    cancel (r % 256) wrong b (omega arith) k (A .0) (same-step r r wrong b f f k (A .0) before .0)
+    cancel (r % 256) wrong b (same-step r r wrong b f f k (A .0) before .0)
 same-byte r (b ∷ bytes) (suc place) wrong f A h k e =
     same-byte (tableStep r b) bytes place wrong (step-fits r b f (A .0)) (A .1) (le-of-suc-le-suc h) k e
 

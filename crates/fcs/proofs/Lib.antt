@@ -4,4 +4,5 @@ pub mod ByTable
 pub mod Entry
 pub mod Check
 pub mod Pairs
+pub mod Shifts
 pub mod Found

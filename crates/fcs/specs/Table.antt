@@ -51,8 +51,8 @@ abbrev pub EveryEntry : Type 0
 EveryEntry = (length fcsTable ≡ 256) × ((place : ℕ) → place < 256 → getD fcsTable place 0 ≡ fcsOf (place ∷ []))
 
 -- The usual loop over such a table, a byte at a time. The place is the byte, exclusive or the low byte of the register; the
--- register becomes the entry there, exclusive or its own high byte. (The code takes two bytes at a time; that it agrees with the
--- bit rule is the contract of `fcs`.)
+-- register becomes the entry there, exclusive or its own high byte. (The code takes two bytes at a time, and few bytes without the
+-- table; that both agree with the bit rule is the contract of `fcs`.)
 unfoldable pub tableStep : ℕ → ℕ → ℕ
 tableStep register byte = bitXor (register / 256) (getD fcsTable (bitXor (register % 256) byte) 0)
 

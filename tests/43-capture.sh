@@ -89,6 +89,15 @@ printf '02 00 6a e4 79\n02 0' >"$out/cut.txt"
 checks "a cut text" 2 "$out/cut.txt"
 told "a cut text" ': line 2, column 4: '
 
+# A record that says it holds more than the frame had: its length would take the next record in, so nothing after it is told. The
+# captured length of the first, 5, stands at byte 32.
+{ head -c 32 "$small/small.pcap" && printf '\x26' && tail -c +34 "$small/small.pcap"; } >"$out/swallowed"
+checks "more captured than there was" 2 "$out/swallowed"
+told "more captured than there was" ': byte 24: 38 bytes are captured of a frame that had 5$'
+# The name of a file does not make two lines of one.
+checks "a name with a line's end" 2 "$out/no
+file"
+
 # Other link types are named.
 linked() {
     { head -c 20 "$small/small.pcap" && printf "$2\0\0\0"; } >"$out/link"

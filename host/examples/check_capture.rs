@@ -108,14 +108,12 @@ fn verdict(bytes: &[u8], counts: &mut Counts) -> String {
 
 /// What to say where the capture does not hold as many bytes as the frame had, counted.
 fn cut(captured: usize, original: Option<u32>, counts: &mut Counts) -> String {
-    let Some(original) = original else { return String::new() };
-    match usize::try_from(original) {
-        Ok(original) if original == captured => String::new(),
-        Ok(original) if original < captured => format!("; the capture says that it had {original}"),
-        _ => {
+    match original {
+        Some(original) if usize::try_from(original) != Ok(captured) => {
             counts.cut += 1;
             format!("; {captured} of {original} bytes captured")
         }
+        _ => String::new(),
     }
 }
 
@@ -152,8 +150,9 @@ fn load(path: &OsStr) -> io::Result<Vec<u8>> {
     Ok(bytes)
 }
 
-/// One line on standard error; that it cannot be written changes nothing.
+/// One line on standard error, whatever the name of a file has in it; that it cannot be written changes nothing.
 fn complain(line: &str) -> u8 {
+    let line = line.replace(char::is_control, "?");
     let _ = writeln!(io::stderr(), "check_capture: {line}");
     2
 }

@@ -475,6 +475,16 @@ fn damage_of_pcap() {
                 _ => assert_whole(&next),
             }
         }
+        // A captured length with the next record in it: that record is no frame, and nothing is told of it.
+        for original in [0, 1, 2, 18] {
+            let (mut next, captured) = (capture.clone(), 19);
+            next.record(&[4, 5, 6], original);
+            next.record(&[], 0);
+            next.set_u32(43 + 8, captured);
+            assert_damaged(&next.file, 1, 43, Wrong::AboveOriginal { captured, original });
+            next.set_u32(43 + 12, captured);
+            assert_eq!(read(&next.file).1, None);
+        }
     }
 }
 
@@ -563,6 +573,11 @@ fn damage_inside_blocks() {
             capture.set_u32(BLOCK + 20, captured);
         };
         assert_block_damaged(obsolete, room(captured, 8));
+    }
+    for original in [0, 6] {
+        let above = Wrong::AboveOriginal { captured: 7, original };
+        assert_block_damaged(|capture| capture.enhanced(0, &[0; 7], original, true), above);
+        assert_block_damaged(|capture| capture.obsolete(0, &[0; 7], original), above);
     }
     assert_block_damaged(|capture| capture.simple(&[0; 16], 17), room(17, 16));
     assert_block_damaged(|capture| capture.simple(&[0; 16], u32::MAX), room(20, 16));
@@ -761,7 +776,7 @@ fn random_damage() {
         }
         told.read(&file);
     }
-    told.print("captures with random damage", 16);
+    told.print("captures with random damage", 17);
 }
 
 /// The words name the link type and the place.
@@ -776,4 +791,8 @@ fn words_of_damage() {
         words.as_deref(),
         Some("line 2, column 4: neither a hexadecimal pair nor a blank")
     );
+    let mut above = Capture::pcap_header(false, 0xa1b2c3d4, 2, 195);
+    above.record(&[1, 2, 3], 2);
+    let words = read(&above.file).1.map(|damage| damage.to_string());
+    assert_eq!(words.as_deref(), Some("byte 24: 3 bytes are captured of a frame that had 2"));
 }

@@ -44,7 +44,7 @@ def frames_of_pcap(data, order):
         if begin > len(data):
             raise Damaged("byte %d" % record)
         captured, original = struct.unpack_from(order + "II", data, record + 8)
-        if begin + captured > len(data):
+        if begin + captured > len(data) or captured > original:
             raise Damaged("byte %d" % record)
         yield "byte %d" % begin, data[begin:begin + captured], original
         record = begin + captured
@@ -96,7 +96,7 @@ def frames_of_pcapng(data):
                 interface, = struct.unpack_from(order + ("H" if kind == 2 else "I"), data, begin)
                 captured, original = struct.unpack_from(order + "II", data, begin + 12)
                 begin += 20
-            if interface >= len(snap_lengths) or captured > end - begin:
+            if interface >= len(snap_lengths) or captured > end - begin or captured > original:
                 raise here
             yield "byte %d" % begin, data[begin:begin + captured], original
 
@@ -151,8 +151,6 @@ def expected(data):
             if original > len(frame):
                 words += "; %d of %d bytes captured" % (len(frame), original)
                 cut += 1
-            elif original < len(frame):
-                words += "; the capture says that it had %d" % original
             lines.append("%6d  %-12s length %3d  %s" % (len(lines) + 1, where, len(frame), words))
     except Damaged as damaged:
         place = damaged.args[0]

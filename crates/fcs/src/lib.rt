@@ -82,9 +82,9 @@ fn before_pairs(bytes: &[u8]) -> u16
     two_by_shifts(word(0, bytes[0]))
 }
 
-// The checksum of two bytes, sixteen steps of the division at once. A bit of the quotient is one of the word, changed by those that
-// stand 4 and 11 places before it: so far below the term 16 are the terms 12 and 5. What is left at the end is what the terms 0, 5
-// and 12 of these bits have changed beyond the word.
+// The checksum of two bytes, sixteen steps of the division at once. A bit of the quotient is the word's, changed by the quotient's
+// bits 4 and 11 places before it, since the terms 12 and 5 are so far below the term 16; written out, by the word's bits 4, 8, 12 and
+// 11 places before it. What is left is what the quotient has changed beyond the word by the terms 0, 5 and 12.
 fn two_by_shifts(word: u16) -> u16
     ensures { λ r. ⌜ r ≡ fcsOf (word % 256 ∷ word / 256 ∷ []) ⌝ }
 {

@@ -30,6 +30,7 @@ pub enum Wrong {
     BlockLengths { length: u32, again: u32 },
     Interface { interface: u32, described: u32 },
     CapturedLength { captured: u32, room: usize },
+    AboveOriginal { captured: u32, original: u32 },
 }
 
 /// The frames before it were read; nothing after it was.
@@ -88,6 +89,9 @@ impl fmt::Display for Wrong {
                     f,
                     "the packet has {captured} captured bytes, but its block has room for {room}"
                 )
+            }
+            Wrong::AboveOriginal { captured, original } => {
+                write!(f, "{captured} bytes are captured of a frame that had {original}")
             }
         }
     }

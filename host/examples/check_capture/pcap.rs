@@ -49,14 +49,18 @@ impl<'a> Pcap<'a> {
         let header = header.ok_or(Damage::at_byte(start, Wrong::RecordCut { there }))?;
         // Seconds and their fraction, captured length, original length.
         let [.., c0, c1, c2, c3, o0, o1, o2, o3] = header;
-        let captured = self.order.u32([c0, c1, c2, c3]);
+        let (captured, original) = (self.order.u32([c0, c1, c2, c3]), self.order.u32([o0, o1, o2, o3]));
         let (offset, there) = (self.input.at, self.input.rest.len());
         let data = self.input.take_claimed(captured);
         let data = data.ok_or(Damage::at_byte(start, Wrong::FrameCut { captured, there }))?;
+        // One of the two is wrong, and if it is the first, so is where the next record begins.
+        if captured > original {
+            return Err(Damage::at_byte(start, Wrong::AboveOriginal { captured, original }));
+        }
         Ok(Some(Frame {
             offset,
             line: None,
-            original: Some(self.order.u32([o0, o1, o2, o3])),
+            original: Some(original),
             data: Data::Bytes(data),
         }))
     }

@@ -153,6 +153,9 @@ impl<'a> Pcapng<'a> {
         }
         let (offset, room) = (body.at, body.rest.len());
         let data = body.take_claimed(captured).ok_or(Wrong::CapturedLength { captured, room })?;
+        if captured > original {
+            return Err(Wrong::AboveOriginal { captured, original });
+        }
         Ok(Frame {
             offset,
             line: None,

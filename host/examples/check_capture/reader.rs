@@ -1,6 +1,5 @@
 //! The frames of a capture, one after another, over the slice of the file's bytes. Nothing is allocated and nothing can panic: a
-//! length that stands in the file only splits what is left of it. What was taken is not looked at again, so no byte is in two
-//! frames.
+//! length that stands in the file only splits what is left of it, so no byte is in two frames.
 
 pub mod damage;
 mod hex;
@@ -20,7 +19,7 @@ pub struct Frame<'a> {
     pub offset: usize,
     /// In hexadecimal text, its line.
     pub line: Option<usize>,
-    /// How many bytes it had on the air, if the capture says so. It may have kept fewer.
+    /// How many bytes it had on the air, if the capture says so. It may have kept fewer, never more.
     pub original: Option<u32>,
     pub data: Data<'a>,
 }

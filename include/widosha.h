@@ -10,6 +10,11 @@
  * (yes), 255 (no) or 14 (refused: the frame with its checksum has under 3 or over 127 bytes). So 0 is the one answer of a function
  * that returns uint8_t which says that all is well, and no refusal has the number 255.
  *
+ * quality is the standard's link quality (LQI) of the frame that the radio received, 0 the lowest to 255 the highest. It belongs to
+ * the outcomes and results 2 (a frame) and 4 (a CRC error); with every other code it is ignored, whatever it is. Byte 15 of an
+ * answer (byte 27 of the reply, 45 for the second answer) holds it, unaltered, if the answer is a received frame (6) or a CRC error
+ * (8), and is 0 in all other answers. A call's quality is in that very call's answer or nowhere: the state does not keep it.
+ *
  * A null pointer with length 0 may be passed for any slice. It is a slice of length 0, and so the call is refused: 1 for the state,
  * the reply or the facts, 2 for the pool, 14 for the frame of widosha_check_fcs. For the header reader's frame it is no refusal: no
  * byte has arrived, and no fact is there. The checksum of no bytes is 0.
@@ -57,7 +62,7 @@ uint8_t widosha_outbound_seen(
     uint8_t *state, size_t state_len, uint8_t *reply, size_t reply_len, uint8_t *pool, size_t pool_len);
 
 uint8_t widosha_stopped(
-    uint8_t outcome, uint16_t length, uint64_t time,
+    uint8_t outcome, uint16_t length, uint64_t time, uint8_t quality,
     uint8_t *state, size_t state_len, uint8_t *reply, size_t reply_len, uint8_t *pool, size_t pool_len);
 
 uint8_t widosha_header(
@@ -65,11 +70,11 @@ uint8_t widosha_header(
     uint8_t *state, size_t state_len, uint8_t *reply, size_t reply_len, uint8_t *pool, size_t pool_len);
 
 uint8_t widosha_entered(
-    uint8_t result, uint16_t length, uint64_t time, uint64_t entry,
+    uint8_t result, uint16_t length, uint64_t time, uint64_t entry, uint8_t quality,
     uint8_t *state, size_t state_len, uint8_t *reply, size_t reply_len, uint8_t *pool, size_t pool_len);
 
 uint8_t widosha_fallback(
-    uint8_t result, uint16_t length, uint64_t time, uint8_t cause, uint64_t cause_time,
+    uint8_t result, uint16_t length, uint64_t time, uint8_t cause, uint64_t cause_time, uint8_t quality,
     uint8_t *state, size_t state_len, uint8_t *reply, size_t reply_len, uint8_t *pool, size_t pool_len);
 
 uint8_t widosha_rollback(

@@ -1,4 +1,4 @@
-# Random walks: the proved engine against the model of document 01 and request E4 (tests/engine/model.py). No Rust is needed.
+# Random walks: the proved engine against the model of document 01, requests E4 and E6 (tests/engine/model.py). No Rust is needed.
 if ! command -v python3 >/dev/null; then
     echo "there is no python3"
     exit 77

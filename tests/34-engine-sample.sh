@@ -1,4 +1,5 @@
-# The rest of what driver_replay is run on, and of what it must print, is what the Rust service says.
+# The rest of what driver_replay is run on, and of what it must print, is what the Rust service says (docs/REPLAY-FORMAT.md has what
+# of it is not the Rust's: refusal numbers and link qualities, among others).
 if ! [ -x target/oracle/target/oracle ]; then
     echo "no comparison with the Rust service: target/oracle/target/oracle was not built"
     exit 77

@@ -1,6 +1,6 @@
 # The host crate: its unit tests, its documented examples and its documentation; none of its functions can panic, nor can the
-# reader of captures; and the demonstration of the two cranes holds what it tells (it checks every answer and every mass itself)
-# and prints the same twice.
+# reader of captures; and the demonstration of the two cranes holds what it tells (it checks every answer, every mass and every link
+# quality itself) and prints the same twice.
 set -e
 for each in cargo "${RUSTC:-rustc}"; do
     if ! command -v "$each" >/dev/null; then

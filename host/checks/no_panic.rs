@@ -41,7 +41,10 @@ pub extern "C" fn start(settings: &[u8; 4], addresses: &[u64; 2], service: &mut 
 pub extern "C" fn step(service: &mut DriverService<4>, call: &Call, reply: &mut Result<Reply, Refusal>) -> u32 {
     *reply = service.step(*call);
     let answers = reply.map_or(Answers::None, |reply| reply.answers);
-    answers.into_iter().fold(0, |sum, answer| sum ^ answer.token)
+    answers.into_iter().fold(0, |sum, answer| {
+        let quality = answer.response.quality().unwrap_or(0);
+        sum ^ answer.token ^ u32::from(quality)
+    })
 }
 
 #[no_mangle]

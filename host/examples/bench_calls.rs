@@ -75,6 +75,7 @@ struct Memory {
 const HARDWARE: u64 = 0x0011_2233_4455_6677;
 const PAN: u16 = 0x1234;
 const TIME: u64 = 1_000_000;
+const QUALITY: u8 = 200;
 const OFF: u8 = 0;
 const SENT: u8 = 1;
 const FRAME: u8 = 2;
@@ -131,11 +132,13 @@ unsafe fn call(numbers: Numbers, s: Slice, r: Slice, p: Slice) -> u8 {
             let (start, time) = timed(start);
             widosha_outbound_seen(start, time, 1, s.0, s.1, r.0, r.1, p.0, p.1)
         }
-        Numbers::Stopped(outcome, length) => widosha_stopped(outcome, length, TIME, s.0, s.1, r.0, r.1, p.0, p.1),
+        Numbers::Stopped(outcome, length) => widosha_stopped(outcome, length, TIME, QUALITY, s.0, s.1, r.0, r.1, p.0, p.1),
         Numbers::Header(arrived) => widosha_header(arrived, 17, s.0, s.1, r.0, r.1, p.0, p.1),
-        Numbers::Entered(result, length, entry) => widosha_entered(result, length, TIME, entry, s.0, s.1, r.0, r.1, p.0, p.1),
+        Numbers::Entered(result, length, entry) => {
+            widosha_entered(result, length, TIME, entry, QUALITY, s.0, s.1, r.0, r.1, p.0, p.1)
+        }
         Numbers::Fallback(result, length, cause) => {
-            widosha_fallback(result, length, TIME, cause, TIME, s.0, s.1, r.0, r.1, p.0, p.1)
+            widosha_fallback(result, length, TIME, cause, TIME, QUALITY, s.0, s.1, r.0, r.1, p.0, p.1)
         }
         Numbers::Rollback => widosha_rollback(s.0, s.1, r.0, r.1, p.0, p.1),
     }
@@ -334,7 +337,7 @@ fn count(steps: &[Step], rounds: u32) {
     }
 }
 
-/// One step as lines of the script language of the Rust service's runner.
+/// One step as lines of the script language of the Rust service's runner, which knows no link quality.
 fn script(step: &Step) -> String {
     let start = |start: Option<u64>| start.map_or("best".to_string(), |time| time.to_string());
     let result = |result, length| match result {

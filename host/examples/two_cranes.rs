@@ -2,9 +2,10 @@
 //! the proved driver service, called through its C functions, with a simulated radio that obeys it.
 //!
 //! From the second scene to the sixth crane A's frame is lost, and an acknowledgement of crane B arrives where cell A waits for its
-//! own. A hub knows no cell: it names the one that weighed a box as the header of the received frame does. In the seventh the port's
-//! coordinator broadcasts the time, and four cells hear it. The program checks what it tells: it ends with an error if an answer, a
-//! mass, a cell, a time or what is on the air is not the expected one.
+//! own. A hub knows no cell: it names the one that weighed a box as the header of the received frame does. In the seventh the
+//! port's coordinator broadcasts the time, and four cells hear it. Each frame that is received has a link quality; by these the
+//! last table names the aerial that is bent. The program checks what it tells: it ends with an error if an answer, a mass, a cell,
+//! a time, a link quality or what is on the air is not the expected one.
 
 #[path = "two_cranes/air.rs"]
 mod air;
@@ -17,7 +18,7 @@ mod world;
 
 use air::Who::{self, CellA, CellB, CellC, CellD, HandsetB, HubA, HubB, Port, ReaderB};
 use air::{Air, MICROSECOND};
-use station::{Heard, Sender, Station, Told, Wanted, Weighed, Weighing};
+use station::{Heard, Link, Sender, Station, Told, Wanted, Weighed, Weighing};
 use widosha::{Address, PreliminaryFrameInfo, Response};
 use words::tonnes;
 use world::{sender_of, Event, Show, World, TURNAROUND};
@@ -150,7 +151,8 @@ const CELLS: [(Who, u16, u16); 4] = [
     (CellD, 0xD00D, 0x0D01),
 ];
 
-fn time_broadcast() {
+/// Gives how well everyone was heard.
+fn time_broadcast() -> Vec<Link> {
     title("7. The port's coordinator broadcasts the time and requests an ACK. The cells of four cranes hear it, and none replies.");
     let mut stations = Vec::from(CELLS.map(|(who, pan, address)| Station::new(who, pan, address)));
     stations.push(Station::new(HubA, 0xA00A, 0x0A00));
@@ -165,6 +167,7 @@ fn time_broadcast() {
     check_told(&world);
     let instead = acks_of_the_rust(&world.told);
     weigh_right_after(&mut world, &instead);
+    world.links
 }
 
 /// Every cell was told the time, by whom, and has written nothing into its ACK's frame.
@@ -312,6 +315,33 @@ fn show_losses(world: &World) {
     println!("the awaited number, within the wait, is an ACK to the standard. Only a message above the driver can find that.");
 }
 
+/// What the table of aerials has for each cell: Nacks, frames, and whether all of these are weak.
+const AERIALS: [(usize, usize, bool); 4] = [(4, 7, true), (0, 3, false), (0, 1, false), (0, 1, false)];
+
+/// Each cell's aerial, by the frames that went through it and were received: its own at its hub, and the port's at the cell.
+fn show_aerials(world: &World, links: &[Link]) {
+    title("Is cell A at fault? Frames through each cell's aerial, to its hub or from the port, and their link quality (0 to 255)");
+    println!("cell    Nacks  frames  lowest  mean");
+    for ((who, pan, address), expected) in CELLS.into_iter().zip(AERIALS) {
+        let cell = Sender {
+            pan,
+            address: Address::Short(address),
+        };
+        let is_nack = |each: &&(Who, &str, Response)| each.0 == who && matches!(each.2, Response::Nack { .. });
+        let nacks = world.answers.iter().filter(is_nack).count();
+        let of_cell = links.iter().filter(|link| link.to == who || link.from == cell);
+        let qualities: Vec<u8> = of_cell.map(|link| link.quality).collect();
+        let (frames, weak) = (qualities.len(), qualities.iter().all(|each| words::is_weak(*each)));
+        assert_eq!((nacks, frames, weak), expected, "{}", who.name());
+        let lowest = qualities.iter().min().expect("each cell was told the time");
+        let mean = qualities.iter().map(|each| usize::from(*each)).sum::<usize>() / frames;
+        let mark = if weak { "  weak" } else { "" };
+        println!("{:<6}  {nacks:>5}  {frames:>6}  {lowest:>6}  {mean:>4}{mark}", who.name());
+    }
+    println!("What arrives from cell A is right, but its link is weak both ways, to its hub and from the port:");
+    println!("it is the aerial, not the cell.");
+}
+
 /// The cell of the container's crane.
 fn cell_of(world: &World, container: &str) -> Sender {
     let who = if container.starts_with('A') { CellA } else { CellB };
@@ -333,6 +363,7 @@ fn main() {
     println!(
         "without checksum). Lines with '->' are calls to the proved driver, the action it gives, and in [] the wait it is then in."
     );
+    println!("Link quality (0 to 255) is what the radio told of that very frame, as the driver's answer has it.");
     world.scene(Show::Nothing);
     for hub in [HubA, HubB] {
         world.plan_event(0, Event::Queue(hub, Wanted::Receive));
@@ -341,7 +372,8 @@ fn main() {
     for scene in [quiet_exchange, one_bit, pending_bit, four_bytes, wrong_wait, same_number] {
         scene(&mut world);
     }
-    time_broadcast();
+    let mut links = time_broadcast();
+    links.extend(&world.links);
     for Container(name, _, kilograms) in CONTAINERS {
         let by = cell_of(&world, name);
         let weighed = Weighed { kilograms, by };
@@ -354,4 +386,5 @@ fn main() {
     }
     show_plan(&world);
     show_losses(&world);
+    show_aerials(&world, &links);
 }

@@ -45,6 +45,9 @@ pub enum RxResult {
         length: u16,
         /// When it was received.
         time: u64,
+        /// The standard's link quality (LQI) of the received frame, 0 the lowest to 255 the highest. In an answer it is exactly
+        /// what the radio told in the call that gave the answer.
+        quality: u8,
     },
     /// Nothing was received.
     RxWindowEnded,
@@ -52,6 +55,8 @@ pub enum RxResult {
     CrcError {
         /// When it was received.
         time: u64,
+        /// Its link quality, as of a frame.
+        quality: u8,
     },
 }
 
@@ -74,7 +79,7 @@ pub enum TaskResult {
 pub enum StopResult {
     /// A frame had started and is being received.
     FrameStarted,
-    /// The radio stopped listening.
+    /// The radio stopped listening. The result, its link quality included, comes in no answer.
     RxWindowEnded(RxResult),
     /// The radio listens on.
     Failed,
@@ -153,33 +158,41 @@ impl Task {
 }
 
 impl RxResult {
-    /// The numbers `result`, `length` and `time`.
-    fn numbers(self) -> (u8, u16, u64) {
+    /// The link quality of what was received. None if nothing was.
+    pub const fn quality(self) -> Option<u8> {
         match self {
-            RxResult::Frame { length, time } => (2, length, time),
-            RxResult::RxWindowEnded => (3, 0, 0),
-            RxResult::CrcError { time } => (4, 0, time),
+            RxResult::Frame { quality, .. } | RxResult::CrcError { quality, .. } => Some(quality),
+            RxResult::RxWindowEnded => None,
+        }
+    }
+
+    /// The numbers `result`, `length`, `time` and `quality`.
+    fn numbers(self) -> (u8, u16, u64, u8) {
+        match self {
+            RxResult::Frame { length, time, quality } => (2, length, time, quality),
+            RxResult::RxWindowEnded => (3, 0, 0, 0),
+            RxResult::CrcError { time, quality } => (4, 0, time, quality),
         }
     }
 }
 
 impl TaskResult {
-    /// The numbers `result`, `length` and `time`.
-    pub(crate) fn numbers(self) -> (u8, u16, u64) {
+    /// The numbers `result`, `length`, `time` and `quality`.
+    pub(crate) fn numbers(self) -> (u8, u16, u64, u8) {
         match self {
-            TaskResult::Off => (0, 0, 0),
-            TaskResult::Sent { time } => (1, 0, time),
+            TaskResult::Off => (0, 0, 0, 0),
+            TaskResult::Sent { time } => (1, 0, time, 0),
             TaskResult::Rx(result) => result.numbers(),
         }
     }
 }
 
 impl StopResult {
-    /// The numbers `outcome`, `length` and `time`. Those of a receive result are the same as in `result`.
-    pub(crate) fn numbers(self) -> (u8, u16, u64) {
+    /// The numbers `outcome`, `length`, `time` and `quality`. Those of a receive result are the same as in `result`.
+    pub(crate) fn numbers(self) -> (u8, u16, u64, u8) {
         match self {
-            StopResult::FrameStarted => (0, 0, 0),
-            StopResult::Failed => (1, 0, 0),
+            StopResult::FrameStarted => (0, 0, 0, 0),
+            StopResult::Failed => (1, 0, 0, 0),
             StopResult::RxWindowEnded(result) => result.numbers(),
         }
     }
@@ -202,24 +215,35 @@ mod tests {
 
     #[test]
     fn codes_are_those_of_the_layouts() {
-        let frame = RxResult::Frame { length: 3, time: 9 };
-        let crc = RxResult::CrcError { time: 9 };
+        let (length, time, quality) = (3, 9, 200);
+        let frame = RxResult::Frame { length, time, quality };
+        let crc = RxResult::CrcError { time, quality };
         assert_eq!(Timestamp::BestEffort.numbers(), (0, 0));
         assert_eq!(Timestamp::Scheduled(9).numbers(), (1, 9));
         assert_eq!(Task::Tx { length: 12, cca: true }.numbers(), (0, 12, 1));
         assert_eq!(Task::Rx.numbers(), (1, 0, 0));
-        assert_eq!(TaskResult::Off.numbers(), (0, 0, 0));
-        assert_eq!(TaskResult::Sent { time: 9 }.numbers(), (1, 0, 9));
-        assert_eq!(TaskResult::Rx(frame).numbers(), (2, 3, 9));
-        assert_eq!(TaskResult::Rx(RxResult::RxWindowEnded).numbers(), (3, 0, 0));
-        assert_eq!(TaskResult::Rx(crc).numbers(), (4, 0, 9));
-        assert_eq!(StopResult::FrameStarted.numbers(), (0, 0, 0));
-        assert_eq!(StopResult::Failed.numbers(), (1, 0, 0));
-        assert_eq!(StopResult::RxWindowEnded(frame).numbers(), (2, 3, 9));
-        assert_eq!(StopResult::RxWindowEnded(RxResult::RxWindowEnded).numbers(), (3, 0, 0));
-        assert_eq!(StopResult::RxWindowEnded(crc).numbers(), (4, 0, 9));
+        assert_eq!(TaskResult::Off.numbers(), (0, 0, 0, 0));
+        assert_eq!(TaskResult::Sent { time: 9 }.numbers(), (1, 0, 9, 0));
+        assert_eq!(TaskResult::Rx(frame).numbers(), (2, 3, 9, 200));
+        assert_eq!(TaskResult::Rx(RxResult::RxWindowEnded).numbers(), (3, 0, 0, 0));
+        assert_eq!(TaskResult::Rx(crc).numbers(), (4, 0, 9, 200));
+        assert_eq!(StopResult::FrameStarted.numbers(), (0, 0, 0, 0));
+        assert_eq!(StopResult::Failed.numbers(), (1, 0, 0, 0));
+        assert_eq!(StopResult::RxWindowEnded(frame).numbers(), (2, 3, 9, 200));
+        assert_eq!(StopResult::RxWindowEnded(RxResult::RxWindowEnded).numbers(), (3, 0, 0, 0));
+        assert_eq!(StopResult::RxWindowEnded(crc).numbers(), (4, 0, 9, 200));
         assert_eq!(Cause::Scheduling(Timestamp::BestEffort).numbers(), (0, 0));
         assert_eq!(Cause::Scheduling(Timestamp::Scheduled(9)).numbers(), (1, 9));
         assert_eq!(Cause::Task.numbers(), (2, 0));
+    }
+
+    #[test]
+    fn what_was_received_has_its_quality() {
+        let (length, time) = (3, 9);
+        for quality in 0..=255 {
+            assert_eq!(RxResult::Frame { length, time, quality }.quality(), Some(quality));
+            assert_eq!(RxResult::CrcError { time, quality }.quality(), Some(quality));
+        }
+        assert_eq!(RxResult::RxWindowEnded.quality(), None);
     }
 }

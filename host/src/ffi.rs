@@ -87,11 +87,12 @@ unsafe extern "C" {
         pool_len: usize,
     ) -> u8;
 
-    /// What stopping the listening radio came to.
+    /// What stopping the listening radio came to. No answer shows the link quality.
     pub fn widosha_stopped(
         outcome: u8,
         length: u16,
         time: u64,
+        quality: u8,
         state: *mut u8,
         state_len: usize,
         reply: *mut u8,
@@ -112,12 +113,13 @@ unsafe extern "C" {
         pool_len: usize,
     ) -> u8;
 
-    /// The radio has entered its task: the previous task's result, and the measured entry.
+    /// The radio has entered its task: the previous task's result, the measured entry, and the link quality of what was received.
     pub fn widosha_entered(
         result: u8,
         length: u16,
         time: u64,
         entry: u64,
+        quality: u8,
         state: *mut u8,
         state_len: usize,
         reply: *mut u8,
@@ -126,13 +128,14 @@ unsafe extern "C" {
         pool_len: usize,
     ) -> u8;
 
-    /// The radio could not enter its task: the previous task's result, and the cause.
+    /// The radio could not enter its task: the previous task's result, the cause, and the link quality of what was received.
     pub fn widosha_fallback(
         result: u8,
         length: u16,
         time: u64,
         cause: u8,
         cause_time: u64,
+        quality: u8,
         state: *mut u8,
         state_len: usize,
         reply: *mut u8,

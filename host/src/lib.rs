@@ -42,7 +42,7 @@
 //! cell.stopped(StopResult::FrameStarted)?;
 //! cell.none()?;
 //! cell.put_frame(1, &[0x02, 0x00, 7]);
-//! let received = TaskResult::Rx(RxResult::Frame { length: 3, time: 2_184_000 });
+//! let received = TaskResult::Rx(RxResult::Frame { length: 3, time: 2_184_000, quality: 187 });
 //! let ended = cell.entered(received, 2_184_000)?;
 //! let sent = Answer { token: 1, buffer: 2, response: Response::Sent { time: 1_640_000 } };
 //! assert_eq!(ended, Reply { action: Action::ReceiveRequest, answers: Answers::One(sent) });
@@ -53,7 +53,7 @@
 //! ```
 //!
 //! The hub needs no parser of its own: what the header of a received frame says comes with its answer, read by the library. It
-//! receives that weighing and learns which cell sent it:
+//! receives that weighing and learns which cell sent it, and by the link quality how well it was heard:
 //!
 //! ```
 //! # use widosha::*;
@@ -78,12 +78,14 @@
 //! hub.put_frame(2, &frame);
 //! let turn = hub.header(9, 14)?;
 //! assert!(matches!(turn.action, Action::Tx { buffer: 0, length: 3, .. }));
-//! let ended = hub.entered(TaskResult::Rx(RxResult::Frame { length: 12, time: 1_640_000 }), 1_832_000)?;
+//! let received = TaskResult::Rx(RxResult::Frame { length: 12, time: 1_640_000, quality: 58 });
+//! let ended = hub.entered(received, 1_832_000)?;
 //!
 //! for answer in ended.answers {
 //!     let Some(received) = hub.received(&answer) else { continue };
 //!     assert_eq!((received.info.src_pan_id, received.info.src_address), (Some(0x1234), Some(Address::Short(0x0001))));
 //!     assert_eq!(received.after_addressing(), Some(&[0xc0, 0x5d, 0x00][..]));
+//!     assert_eq!(answer.response.quality(), Some(58));
 //! }
 //! # assert!(matches!(ended.answers, Answers::One(Answer { token: 5, .. })));
 //! # Ok::<(), Refusal>(())

@@ -35,10 +35,10 @@ on_slices! {
     none() = widosha_none;
     frame_start() = widosha_frame_start;
     outbound_seen(start: u8, time: u64, cca: u8) = widosha_outbound_seen;
-    stopped(outcome: u8, length: u16, time: u64) = widosha_stopped;
+    stopped(outcome: u8, length: u16, time: u64, quality: u8) = widosha_stopped;
     header(arrived: u16, length: u16) = widosha_header;
-    entered(result: u8, length: u16, time: u64, entry: u64) = widosha_entered;
-    fallback(result: u8, length: u16, time: u64, cause: u8, cause_time: u64) = widosha_fallback;
+    entered(result: u8, length: u16, time: u64, entry: u64, quality: u8) = widosha_entered;
+    fallback(result: u8, length: u16, time: u64, cause: u8, cause_time: u64, quality: u8) = widosha_fallback;
     rollback() = widosha_rollback;
 }
 

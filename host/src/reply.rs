@@ -112,6 +112,17 @@ pub enum Response {
     Received(RxResult),
 }
 
+impl Response {
+    /// The link quality of the frame or the CRC error that a receive request came to; no other answer has one. A Sent has none
+    /// either: that of the acknowledgement is not told.
+    pub const fn quality(self) -> Option<u8> {
+        match self {
+            Response::Received(result) => result.quality(),
+            Response::Sent { .. } | Response::Nack { .. } | Response::Error(_) => None,
+        }
+    }
+}
+
 /// The answer to a request.
 #[derive(Clone, Copy, Debug, PartialEq, Eq)]
 pub struct Answer {
@@ -304,8 +315,9 @@ fn decode_action(bytes: &[u8; ACTION_LENGTH]) -> Option<Action> {
     })
 }
 
+/// Bytes that the code leaves unused are not looked at, as in an action: the quality of any answer but 6 and 8 among them.
 fn answer(bytes: &[u8; ANSWER_LENGTH]) -> Option<Answer> {
-    let [code, t0, t1, t2, t3, buffer, length, n0, n1, n2, n3, n4, n5, n6, n7, ..] = *bytes;
+    let [code, t0, t1, t2, t3, buffer, length, n0, n1, n2, n3, n4, n5, n6, n7, quality, ..] = *bytes;
     let time = u64::from_le_bytes([n0, n1, n2, n3, n4, n5, n6, n7]);
     let length = u16::from(length);
     let response = match code {
@@ -314,9 +326,9 @@ fn answer(bytes: &[u8; ANSWER_LENGTH]) -> Option<Answer> {
         3 => Response::Error(Cause::Scheduling(Timestamp::BestEffort)),
         4 => Response::Error(Cause::Scheduling(Timestamp::Scheduled(time))),
         5 => Response::Error(Cause::Task),
-        6 => Response::Received(RxResult::Frame { length, time }),
+        6 => Response::Received(RxResult::Frame { length, time, quality }),
         7 => Response::Received(RxResult::RxWindowEnded),
-        8 => Response::Received(RxResult::CrcError { time }),
+        8 => Response::Received(RxResult::CrcError { time, quality }),
         _ => return None,
     };
     Some(Answer {
@@ -391,7 +403,7 @@ mod tests {
 
     #[test]
     fn answers_are_those_of_the_layouts() {
-        let bytes = |code| [code, 4, 3, 2, 1, 9, 11, 7, 0, 0, 0, 0, 0, 0, 0x80, 0, 0, 0];
+        let bytes = |code| [code, 4, 3, 2, 1, 9, 11, 7, 0, 0, 0, 0, 0, 0, 0x80, 0xc5, 0xc6, 0xc7];
         let one = |code| match Reply::decode(&with(&[(0, &[1]), (12, &bytes(code))]))?.answers {
             Answers::One(Answer {
                 token: 0x0102_0304,
@@ -400,16 +412,17 @@ mod tests {
             }) => Some(response),
             _ => None,
         };
-        let time = 0x8000_0000_0000_0007;
+        let (length, time, quality) = (11, 0x8000_0000_0000_0007, 0xc5);
         let at = Timestamp::Scheduled(time);
         assert_eq!(one(1), Some(Response::Sent { time }));
         assert_eq!(one(2), Some(Response::Nack { time }));
         assert_eq!(one(3), Some(Response::Error(Cause::Scheduling(Timestamp::BestEffort))));
         assert_eq!(one(4), Some(Response::Error(Cause::Scheduling(at))));
         assert_eq!(one(5), Some(Response::Error(Cause::Task)));
-        assert_eq!(one(6), Some(Response::Received(RxResult::Frame { length: 11, time })));
+        let frame = RxResult::Frame { length, time, quality };
+        assert_eq!(one(6), Some(Response::Received(frame)));
         assert_eq!(one(7), Some(Response::Received(RxResult::RxWindowEnded)));
-        assert_eq!(one(8), Some(Response::Received(RxResult::CrcError { time })));
+        assert_eq!(one(8), Some(Response::Received(RxResult::CrcError { time, quality })));
         assert_eq!(one(9), None);
         let two = Reply::decode(&with(&[(0, &[1]), (12, &bytes(1)), (30, &bytes(5))])).map(|reply| reply.answers);
         let mut tokens = two.into_iter().flatten().map(|answer| (answer.token, answer.response));
@@ -417,5 +430,31 @@ mod tests {
         assert_eq!(tokens.next(), Some((0x0102_0304, Response::Error(Cause::Task))));
         assert_eq!(tokens.next(), None);
         assert_eq!(Reply::decode(&with(&[(0, &[1]), (30, &bytes(1))])), None);
+    }
+
+    // Byte 15 of each answer, unaltered, and of a frame or a CRC error only; the second answer has its own.
+    #[test]
+    fn quality_is_byte_15_of_what_was_received() {
+        let qualities = |codes: [u8; 2], quality| {
+            let reply = with(&[
+                (0, &[1]),
+                (12, &codes[..1]),
+                (27, &[quality]),
+                (30, &codes[1..]),
+                (45, &[!quality]),
+            ]);
+            let answers = Reply::decode(&reply).map(|reply| reply.answers).into_iter().flatten();
+            let found: std::vec::Vec<_> = answers.map(|answer| answer.response.quality()).collect();
+            found
+        };
+        for quality in 0..=255 {
+            for code in 1..=8 {
+                let received = code == 6 || code == 8;
+                let (this, other) = (received.then_some(quality), received.then_some(!quality));
+                assert_eq!(qualities([code, 0], quality), [this], "code {code}");
+                assert_eq!(qualities([code, 5], quality), [this, None], "code {code}");
+                assert_eq!(qualities([1, code], quality), [None, other], "code {code}");
+            }
+        }
     }
 }

@@ -82,8 +82,8 @@ impl<const N: usize> DriverService<N> {
 
     /// What stopping the listening radio came to.
     pub fn stopped(&mut self, outcome: StopResult) -> Result<Reply, Refusal> {
-        let (outcome, length, time) = outcome.numbers();
-        self.call(|slices| raw::stopped(outcome, length, time, slices))
+        let (outcome, length, time, quality) = outcome.numbers();
+        self.call(|slices| raw::stopped(outcome, length, time, quality, slices))
     }
 
     /// So many bytes of the frame that is being received have arrived in the listening buffer; its length is with checksum.
@@ -96,15 +96,15 @@ impl<const N: usize> DriverService<N> {
 
     /// The radio has entered its task at this time, and the previous one came to this result.
     pub fn entered(&mut self, result: TaskResult, entry: u64) -> Result<Reply, Refusal> {
-        let (result, length, time) = result.numbers();
-        self.call(|slices| raw::entered(result, length, time, entry, slices))
+        let (result, length, time, quality) = result.numbers();
+        self.call(|slices| raw::entered(result, length, time, entry, quality, slices))
     }
 
     /// The radio could not enter its task, and the previous one came to this result.
     pub fn fallback(&mut self, result: TaskResult, cause: Cause) -> Result<Reply, Refusal> {
-        let (result, length, time) = result.numbers();
+        let (result, length, time, quality) = result.numbers();
         let (cause, cause_time) = cause.numbers();
-        self.call(|slices| raw::fallback(result, length, time, cause, cause_time, slices))
+        self.call(|slices| raw::fallback(result, length, time, cause, cause_time, quality, slices))
     }
 
     /// The radio went back to listening.
@@ -329,7 +329,8 @@ mod tests {
         assert_eq!(entered, Ok(Action::Stop(StopListening::At(15_000))));
         let again = service.step(Call::Stopped(StopResult::Failed)).map(|reply| reply.action);
         assert_eq!(again, Ok(Action::Stop(StopListening::Now)));
-        let long = RxResult::Frame { length: 124, time: 1 };
+        let (length, time, quality) = (124, 1, 5);
+        let long = RxResult::Frame { length, time, quality };
         assert_eq!(service.stopped(StopResult::RxWindowEnded(long)), Err(Refusal::ReceivedLength));
         let ask = service
             .stopped(StopResult::RxWindowEnded(RxResult::RxWindowEnded))
@@ -380,8 +381,55 @@ mod tests {
             Ok(rearm),
             "one byte of the source is missing"
         );
-        let result = TaskResult::Rx(RxResult::CrcError { time: 6 });
+        let result = TaskResult::Rx(RxResult::CrcError { time: 6, quality: 8 });
         assert_eq!(service.entered(result, 7).map(|reply| reply.action), Ok(Action::Listen));
+    }
+
+    /// A service that receives a frame for us for token 9 in buffer 1, without an ACK, and asks.
+    fn receiving() -> DriverService<4> {
+        let mut service = started();
+        service.put_frame(1, &[0x41, 0x88, 7, 0x34, 0x12, 0x77, 0x66, 1, 0]);
+        service.request(rx(9, 1)).expect("a request fits");
+        service.step(off_at(1)).expect("the radio listens");
+        service.frame_start().expect("a frame starts");
+        service.stopped(StopResult::FrameStarted).expect("it is received");
+        service.header(9, 30).expect("its header is there");
+        service
+    }
+
+    // What Entered and Fallback tell of a reception is what the answer tells, number by number and each different from the others.
+    #[test]
+    fn received_results_come_back_unaltered() {
+        let (length, time, quality) = (28, 4_000, 201);
+        let results = [
+            RxResult::Frame { length, time, quality },
+            RxResult::CrcError { time, quality },
+            RxResult::RxWindowEnded,
+        ];
+        for result in results {
+            let received = Answer {
+                token: 9,
+                buffer: 1,
+                response: Response::Received(result),
+            };
+            let mut service = receiving();
+            service.none().expect("nothing waits");
+            let entered = service.entered(TaskResult::Rx(result), 5_000).map(|reply| reply.answers);
+            assert_eq!(entered, Ok(Answers::One(received)));
+
+            let mut service = receiving();
+            service
+                .request(tx(10, Timestamp::Scheduled(77), 2, 12, true))
+                .expect("a Tx of any start");
+            let cause = Cause::Scheduling(Timestamp::Scheduled(76));
+            let error = Answer {
+                token: 10,
+                buffer: 2,
+                response: Response::Error(cause),
+            };
+            let fallen = service.fallback(TaskResult::Rx(result), cause).map(|reply| reply.answers);
+            assert_eq!(fallen, Ok(Answers::Two(received, error)));
+        }
     }
 
     // The frame stands after the headroom, has the answer's length and not the buffer's, and is looked for in the answer's buffer.
@@ -392,7 +440,11 @@ mod tests {
         let of = |buffer, length| Answer {
             token: 9,
             buffer,
-            response: Response::Received(RxResult::Frame { length, time: 3 }),
+            response: Response::Received(RxResult::Frame {
+                length,
+                time: 3,
+                quality: 4,
+            }),
         };
         let received = service.received(&of(1, 10)).expect("a received frame");
         assert_eq!(received.frame, [0x41, 0x88, 7, 0x34, 0x12, 0x77, 0x66, 1, 0, 0xee]);
@@ -413,7 +465,7 @@ mod tests {
             Response::Nack { time: 3 },
             Response::Error(Cause::Task),
             Response::Received(RxResult::RxWindowEnded),
-            Response::Received(RxResult::CrcError { time: 3 }),
+            Response::Received(RxResult::CrcError { time: 3, quality: 4 }),
         ];
         for response in others {
             assert_eq!(service.received(&Answer { response, ..of(1, 10) }), None, "{response:?}");

@@ -5,102 +5,13 @@ mod model;
 use common::compare::Pair;
 use common::random::Rng;
 use common::reached::{collect, every_wait, Reached};
-use common::run::{Opening, Run, Step};
+use common::run::Run;
+use common::scenes::*;
 use common::{choose, divisor, seed, stride};
 use model::bytes::{codes, read_state};
 use model::calls::{Raw, RawStart};
 use model::engine::State;
 use model::header::Control;
-
-const HARDWARE: u64 = 0x1122_3344_5566_7788;
-const PAN: u16 = 0xabcd;
-const HEADROOM: u8 = 3;
-const ACK: u8 = 1;
-const SPARE: u8 = 4;
-
-fn settings(fcs_length: u8) -> RawStart {
-    RawStart {
-        count: 6,
-        headroom: HEADROOM,
-        tailroom: 8,
-        fcs_length,
-        hardware_addr: HARDWARE,
-        pan_id: PAN,
-        implicit_broadcast: 0,
-        ack_buffer: ACK,
-        spare_buffer: SPARE,
-    }
-}
-
-fn open(start: RawStart) -> Run {
-    Run::open(Opening { start, fill: 42 }).unwrap_or_else(|wrong| panic!("{wrong}"))
-}
-
-/// Puts bytes at the beginning of a buffer's frame.
-fn put(run: &mut Run, buffer: u8, bytes: &[u8]) {
-    let at = 144 * usize::from(buffer) + usize::from(run.opening.start.headroom);
-    run.step(Step::Poke((at, bytes.to_vec()))).expect("a poke");
-}
-
-fn call(run: &mut Run, raw: Raw) -> u8 {
-    run.step(Step::Call(raw))
-        .unwrap_or_else(|wrong| panic!("{wrong}\nafter {:?}", run.steps))
-}
-
-/// Calls that are all accepted; the last one's reply.
-fn calls(run: &mut Run, raws: &[Raw]) -> Vec<u8> {
-    for raw in raws {
-        assert_eq!(call(run, *raw), 0, "{raw:?} after {:?}", run.steps);
-    }
-    run.pair.reply().to_vec()
-}
-
-fn tx(token: u32, buffer: u8, length: u16) -> Raw {
-    Raw::request(token, 0, 0, 0, buffer, length, 0)
-}
-
-fn rx(token: u32, buffer: u8) -> Raw {
-    Raw::request(token, 1, 0, 0, buffer, 0, 0)
-}
-
-fn entered_from_off() -> Raw {
-    Raw::entered(0, 0, 0, 0)
-}
-
-fn entered_after_sending(time: u64, entry: u64) -> Raw {
-    Raw::entered(1, 0, time, entry)
-}
-
-fn entered_after_frame(length: u16) -> Raw {
-    Raw::entered(2, length, 55, 0)
-}
-
-fn frame_started() -> Raw {
-    Raw::stopped(0, 0, 0)
-}
-
-/// A run in which a frame with number 7 that wants an ACK was sent and an ACK frame has started.
-fn receiving_ack(fcs_length: u8, length: u16) -> Run {
-    let mut run = open(settings(fcs_length));
-    put(&mut run, 2, &[0x61, 0x88, 7]);
-    calls(
-        &mut run,
-        &[
-            tx(70, 2, length),
-            entered_from_off(),
-            entered_after_sending(900, 1_000_000),
-            frame_started(),
-        ],
-    );
-    run
-}
-
-/// A run in which the radio listens with buffer 2 for token 9 and is to read a header.
-fn reading_header(start: RawStart) -> Run {
-    let mut run = open(start);
-    calls(&mut run, &[rx(9, 2), entered_from_off(), Raw::FrameStart, frame_started()]);
-    run
-}
 
 /// "*02 00 07 Sent, *02 10 07 Sent, *12 00 07 Nack, *02 20 07 Nack, *02 00 08 Nack, a fourth byte Nack."
 #[test]
@@ -130,7 +41,7 @@ fn acknowledgement_rows() {
 /// The bytes in the spare buffer's frame answer the frame with this code, whatever comes next.
 fn acknowledged(bytes: &[u8], length: u16, code: u8) {
     let after = entered_after_frame(length);
-    let fallback = Raw::fallback(2, length, 55, 2, 0);
+    let fallback = Raw::fallback(2, length, 55, 2, 0, 203);
     for outcome in [
         [Raw::None, after],
         [rx(71, 0), after],
@@ -175,9 +86,9 @@ fn damaged_acknowledgement_is_nack() {
     let off = calls(&mut run, &[Raw::None]);
     assert_eq!(off[..12], [11, 0, 0, 0, 0, 0, 0, 0, 0, 0, 0, 0]);
     assert_eq!(call(&mut run, Raw::Rollback), 5);
-    let window_ended = Raw::entered(3, 0, 0, 0);
+    let window_ended = Raw::entered(3, 0, 0, 0, 205);
     assert_eq!(call(&mut run, window_ended), 5, "\"window ended\" does not fit");
-    let reply = calls(&mut run, &[Raw::entered(4, 0, 77, 0)]);
+    let reply = calls(&mut run, &[Raw::entered(4, 0, 77, 0, 206)]);
     assert_eq!((reply[0], reply[12], reply[17]), (1, 2, 2));
 }
 
@@ -204,7 +115,7 @@ fn measured_entry() {
     // No other measured entry is refused.
     let mut run = open(settings(4));
     put(&mut run, 2, &[0x61, 0x88, 7]);
-    calls(&mut run, &[tx(70, 2, 20), Raw::entered(0, 0, 0, u64::MAX)]);
+    calls(&mut run, &[tx(70, 2, 20), Raw::entered(0, 0, 0, u64::MAX, 207)]);
 }
 
 /// "Tx length 2 is 8."
@@ -344,15 +255,15 @@ fn received_lengths() {
     let made = on_every_state(seed(20), 2, |_, _| {
         let mut raws = Vec::new();
         for length in lengths() {
-            raws.push(Raw::stopped(2, length, 5));
-            raws.push(Raw::entered(2, length, 5, 6));
-            raws.push(Raw::fallback(2, length, 5, 1, 7));
+            raws.push(Raw::stopped(2, length, 5, 8));
+            raws.push(Raw::entered(2, length, 5, 6, 8));
+            raws.push(Raw::fallback(2, length, 5, 1, 7, 8));
             raws.push(Raw::header(length, 30));
             // A length that the code leaves unused is ignored.
             for result in [0, 1, 3, 4] {
-                raws.push(Raw::stopped(result, length, 5));
-                raws.push(Raw::entered(result, length, 5, 6));
-                raws.push(Raw::fallback(result, length, 5, 0, 7));
+                raws.push(Raw::stopped(result, length, 5, 8));
+                raws.push(Raw::entered(result, length, 5, 6, 8));
+                raws.push(Raw::fallback(result, length, 5, 0, 7, 8));
             }
         }
         raws
@@ -401,6 +312,7 @@ fn every_code_value() {
                 unreachable!("a request")
             };
             let (d, s, c) = (direction & 1, start & 1, cca & 1);
+            let quality = choose::quality(rng);
             raws.push(Raw::request(token, code, s, time, buffer, length, c));
             raws.push(Raw::request(token, d, code, time, buffer, length, c));
             raws.push(Raw::request(token, d, s, time, buffer, length, code));
@@ -408,13 +320,13 @@ fn every_code_value() {
             raws.push(Raw::outbound_seen(code, time, c));
             raws.push(Raw::outbound_seen(0, time, code));
             raws.push(Raw::outbound_seen(1, time, code));
-            raws.push(Raw::stopped(code, 3, time));
-            raws.push(Raw::entered(code, 3, time, 9));
+            raws.push(Raw::stopped(code, 3, time, quality));
+            raws.push(Raw::entered(code, 3, time, 9, quality));
             for result in 0..5 {
-                raws.push(Raw::fallback(result, 3, time, code, 8));
+                raws.push(Raw::fallback(result, 3, time, code, 8, quality));
             }
             for cause in 0..3 {
-                raws.push(Raw::fallback(code, 3, time, cause, 8));
+                raws.push(Raw::fallback(code, 3, time, cause, 8, quality));
             }
         }
         raws
@@ -444,7 +356,7 @@ fn codes_together() {
             }
             raws.push(Raw::outbound_seen(first, 4, second));
             for length in [0, 3, 200] {
-                raws.push(Raw::fallback(first, length, 4, second, 8));
+                raws.push(Raw::fallback(first, length, 4, second, 8, choose::quality(rng)));
             }
         }
         raws
@@ -600,7 +512,7 @@ fn rearm_exchanges_buffers() {
         "no spacing, no rollback"
     );
     assert_eq!(call(&mut run, Raw::Rollback), 5);
-    calls(&mut run, &[Raw::entered(4, 0, 8, 0), Raw::FrameStart, frame_started()]);
+    calls(&mut run, &[Raw::entered(4, 0, 8, 0, 206), Raw::FrameStart, frame_started()]);
     put(&mut run, SPARE, &[0x41, 0x88, 1, 0xcd, 0xab, 0x88, 0x77, 0, 0]);
     calls(&mut run, &[Raw::header(9, 40)]);
     assert_eq!(call(&mut run, rx(10, 2)), 7, "the old buffer is the spare");
@@ -998,7 +910,7 @@ fn outbound_seen() {
             expected[4..12].copy_from_slice(&time.to_le_bytes());
         }
         assert_eq!(reply, expected);
-        let asked = calls(&mut run, &[Raw::stopped(2, 40, 3)]);
+        let asked = calls(&mut run, &[Raw::stopped(2, 40, 3, 208)]);
         assert_eq!(asked[0], 3);
         assert_eq!(call(&mut run, Raw::None), 5, "None does not fit");
         assert_eq!(call(&mut run, rx(10, 3)), 9);
@@ -1023,11 +935,11 @@ fn awaiting_an_acknowledgement() {
         [10, SPARE, 0, 1 << 3, 0, 0, 0, 0, 0, 0, 0, 0],
         "spare buffer, ACK spacing"
     );
-    let failed = Raw::stopped(1, 0, 0);
+    let failed = Raw::stopped(1, 0, 0, 209);
     let again = calls(&mut run, &[entered_after_sending(900, 5), failed]);
     assert_eq!(again[..12], [5, 0, 0, 0, 0, 0, 0, 0, 0, 0, 0, 0]);
     assert_eq!(call(&mut run, failed), 5);
-    assert_eq!(calls(&mut run, &[Raw::stopped(4, 0, 9)])[0], 2);
+    assert_eq!(calls(&mut run, &[Raw::stopped(4, 0, 9, 210)])[0], 2);
     let timed = Raw::request(71, 1, 1, 5, 0, 0, 0);
     assert_eq!(call(&mut run, timed), 9);
     let reply = calls(&mut run.clone(), &[Raw::None]);

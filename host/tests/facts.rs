@@ -346,14 +346,18 @@ impl Hub {
         }
     }
 
-    /// A frame arrives whole: the answer, or none if the frame was not for us and the hub listens on.
-    fn hear(&mut self, frame: &[u8]) -> Option<Answer> {
+    /// A frame arrives whole, with this link quality: the answer, or none if the frame was not for us and the hub listens on.
+    fn hear(&mut self, frame: &[u8], quality: u8) -> Option<Answer> {
         let length = frame.len() as u16;
         self.service.put_frame(self.buffer, &[0xb5; FRAME_LENGTH]);
         self.service.frame_start().expect("it listens");
         self.service.stopped(StopResult::FrameStarted).expect("it stops");
         self.service.put_frame(self.buffer, frame);
-        let result = TaskResult::Rx(RxResult::Frame { length, time: 7 });
+        let result = TaskResult::Rx(RxResult::Frame {
+            length,
+            time: 7,
+            quality,
+        });
         let header = self.service.header(length, length + u16::from(self.settings.fcs));
         let action = header.expect("it reads the header").action;
         self.ack_turn = matches!(action, Action::Tx { .. });
@@ -380,12 +384,14 @@ fn received_frames() {
             let mut frame = frames::header(&mut rng, &hub.settings);
             frame.resize(frame.len() + rng.below(longest - frame.len() + 1), rng.byte());
             let facts = header::read(&frame);
-            let answer = hub.hear(&frame);
+            let quality = rng.byte();
+            let answer = hub.hear(&frame, quality);
             assert_eq!(answer.is_some(), header::for_us(&hub.settings, &facts), "{frame:02x?}");
             let Some(answer) = answer else {
                 foreign += 1;
                 continue;
             };
+            assert_eq!(answer.response.quality(), Some(quality), "not that of a frame before it");
             let found = hub.service.received(&answer).expect("a received frame");
             assert_eq!(found.frame, frame);
             assert_eq!(found.info, info(&facts));
@@ -417,12 +423,17 @@ fn received_broadcasts() {
     for _ in 0..rounds(60_000) {
         let mut hub = Hub::listening(&mut rng);
         let frame = frames::header(&mut rng, &hub.settings);
-        let answer = hub.hear(&frame);
+        let quality = rng.byte();
+        let answer = hub.hear(&frame, quality);
         let whom = frames::requested(&hub.settings, &frame);
         assert_eq!(hub.ack_turn, matches!(whom, Some(For::Us(_))), "{whom:?}: {frame:02x?}");
         let Some(whom) = whom else { continue };
         let length = frame.len() as u16;
-        let response = Response::Received(RxResult::Frame { length, time: 7 });
+        let response = Response::Received(RxResult::Frame {
+            length,
+            time: 7,
+            quality,
+        });
         assert_eq!(answer.map(|answer| answer.response), Some(response), "{whom:?}: {frame:02x?}");
         // "write it in the ACK frame": the number of a frame with an ACK turn, and of no other.
         let number = if hub.ack_turn { frame[2] } else { 0 };

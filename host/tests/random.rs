@@ -8,7 +8,7 @@ use common::run::{fail, Opening, Run};
 use common::{choose, compare::Pair, divisor, reached::every_wait, rounds, seed};
 use model::calls::{Raw, CALL_NAMES};
 use model::engine::Wait;
-use std::collections::BTreeMap;
+use std::collections::{BTreeMap, BTreeSet};
 
 /// What has been reached, by count.
 #[derive(Default)]
@@ -21,6 +21,8 @@ struct Coverage {
     waits: BTreeMap<[u8; 3], u64>,
     actions: BTreeMap<u8, u64>,
     answers: [BTreeMap<u8, u64>; 2],
+    /// By answer: 6 a frame, 8 a CRC error.
+    qualities: BTreeMap<u8, BTreeSet<u8>>,
     requested: BTreeMap<For, u64>,
 }
 
@@ -39,6 +41,9 @@ impl Coverage {
         *self.actions.entry(reply[0]).or_default() += 1;
         for (place, at) in [12, 30].into_iter().enumerate() {
             *self.answers[place].entry(reply[at]).or_default() += 1;
+            if matches!(reply[at], 6 | 8) {
+                self.qualities.entry(reply[at]).or_default().insert(reply[at + 15]);
+            }
         }
         if let Raw::Header { arrived, .. } = raw {
             self.count_requested(run, arrived);
@@ -77,6 +82,8 @@ impl Coverage {
         println!("  waits: {:?}", self.waits);
         println!("  actions: {:?}", self.actions);
         println!("  answers, first: {:?}, second: {:?}", self.answers[0], self.answers[1]);
+        let qualities: Vec<usize> = self.qualities.values().map(BTreeSet::len).collect();
+        println!("random: link qualities in answers, of frames and of CRC errors: {qualities:?}");
         println!(
             "random: frames for us that request an ACK and have a number: {:?}",
             self.requested
@@ -109,6 +116,10 @@ impl Coverage {
             (0..=8).collect::<Vec<u8>>()
         );
         assert_eq!(self.answers[1].keys().copied().collect::<Vec<_>>(), [0, 3, 4, 5]);
+        assert!(
+            [6, 8].iter().all(|code| self.qualities[code].len() == 256),
+            "not every link quality"
+        );
         for whom in EVERY_FOR {
             let count = self.requested.get(&whom).copied().unwrap_or_default();
             assert!(count >= 500, "{whom:?} was reached only {count} times");

@@ -49,10 +49,10 @@ fn after(raws: &[Raw]) -> Reached {
 fn fitting_calls() -> Vec<(Raw, Reached)> {
     let request = |direction| Raw::request(5, direction, 0, 0, 2, 9, 0);
     let (transmit, receive) = (request(0), request(1));
-    let entered = Raw::entered(0, 0, 0, 5);
-    let stopped = Raw::stopped(0, 0, 0);
+    let entered = Raw::entered(0, 0, 0, 5, 6);
+    let stopped = Raw::stopped(0, 0, 0, 7);
     let header = Raw::header(9, 30);
-    let fallback = Raw::fallback(0, 0, 0, 2, 0);
+    let fallback = Raw::fallback(0, 0, 0, 2, 0, 8);
     let path = [receive, entered, Raw::FrameStart, stopped, header, Raw::None];
     vec![
         (transmit, after(&[])),

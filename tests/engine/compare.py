@@ -1,12 +1,13 @@
-"""Compares driver_replay with the unchanged Rust service and with a model of document 01, over random walks.
+"""Compares driver_replay with the unchanged Rust service and with a model of documents 01 and 02, over random walks.
 
     compare.py OURS ORACLE LIST [CALLS [SEED]]
 
 OURS is the program driver_replay, ORACLE the oracle of ../shared/oracle, LIST the file that lists the classes of differences
 (lines 'Engine class `NAME`', each followed by its smallest script). Ends with 0 only if every reply and every pool byte is the
 same in all three, or the difference is in a listed class, every listed class occurs, every call is made in every wait, every
-refusal 2 to 11 is met and so is every destination of walk.py. The list's other scripts ('Engine unasked `NAME`', 'Engine script
-`NAME`') are run too: both sides must reply what is written there. With '-' for ORACLE the comparison is with the model alone.
+refusal 2 to 11 is met and so is every destination and every kind of link quality of walk.py. The list's other scripts ('Engine
+unasked `NAME`', 'Engine script `NAME`') are run too: both sides must reply what is written there. With '-' for ORACLE the
+comparison is with the model alone. The Rust has no link quality: there it is left aside, and it is compared with the model's.
 """
 
 import collections
@@ -17,8 +18,9 @@ import sys
 import time
 
 from model import WAITS
-from records import CALLS, KINDS, SILENT, ack_line, from_script, reply_of, to_line, to_record, to_script
-from walk import DESTINATIONS, Walk
+from records import (CALLS, KINDS, SILENT, ack_line, bytes_line, dump_line, from_script, quality_aside, reply_of, to_line,
+                     to_record, to_script)
+from walk import ANSWERED, DESTINATIONS, UNANSWERED, Walk, qualities
 
 CHUNK = 20000
 
@@ -58,25 +60,26 @@ def run_oracle(oracle, text):
 
 
 def model_line(item):
-    """The line that document 01's model expects of driver_replay."""
+    """The line that the model expects of driver_replay."""
     what = item.call[0]
     if what == "dump":
-        return "d %08x %s        \n" % (item.call[1], item.reply.hex())
+        return bytes_line("d", item.call[1], item.reply)
     if what == "ack":
-        return ("a %08x %s" % (item.reply[0], item.reply[1].hex())).ljust(115) + "\n"
+        return bytes_line("a", *item.reply)
     return to_line(KINDS[what], *item.reply)
 
 
 def records(items):
-    return "".join([to_record(item.call) for item in items if item.ours])
+    return "".join([to_record(item.call, item.unused) for item in items if item.ours])
 
 
 def script(items):
+    """What the oracle is asked."""
     lines = []
     for item in items:
         if item.asked:
             what = item.call[0]
-            lines.append("dump" if what in ("dump", "ack") else to_script(item.call))
+            lines.append("dump" if what in ("dump", "ack") else to_script(item.call, quality=False))
     return "\n".join(lines) + "\n"
 
 
@@ -96,10 +99,11 @@ class Tally:
         self.unasked = collections.Counter()
         self.classes = collections.Counter()
         self.destinations = collections.Counter()
+        self.qualities = collections.Counter()
 
 
 def rust_line(item, text):
-    """The oracle's reply as a line; a refusal takes the model's number, or 255 where the model has none."""
+    """The oracle's reply as a line; a refusal takes the model's number, or 255 where the model has none. Link qualities are 0."""
     refusal, action, answers = reply_of(text)
     if refusal is None:
         refusal = item.reply[0] or 255
@@ -107,7 +111,7 @@ def rust_line(item, text):
 
 
 def judge_rust(items, ours, theirs, tally):
-    """Our lines against the oracle's."""
+    """Our lines against the oracle's, link qualities left aside."""
     ours, lines = iter(ours), iter(theirs)
     pool = last = None      # the pool that the oracle showed last, our line to the last call
     for index, item in enumerate(items):
@@ -116,7 +120,8 @@ def judge_rust(items, ours, theirs, tally):
             continue
         if not item.ours:
             text = next(lines)
-            if rust_line(item, text) != (last if item.rust is None else to_line(KINDS[what], *item.rust)):
+            expected = last if item.rust is None else to_line(KINDS[what], *item.rust)
+            if quality_aside(rust_line(item, text)) != quality_aside(expected):
                 raise Wrong("the Rust alone says '%s', which is not expected, after\n%s" % (text, since_start(items, index)))
             tally.alone += 1
             continue
@@ -127,7 +132,7 @@ def judge_rust(items, ours, theirs, tally):
             if item.asked:
                 pool = bytes.fromhex(next(lines).split(" ", 1)[1])
             place = item.call[1]
-            if line != "d %08x %s        \n" % (place, pool[place:place + 48].hex()):
+            if line != dump_line(pool, place):
                 raise Wrong("pool bytes from %d on differ from the Rust's after\n%s" % (place, since_start(items, index)))
             tally.pool_bytes += 48
             continue
@@ -138,12 +143,12 @@ def judge_rust(items, ours, theirs, tally):
             seen = bytes.fromhex(text.split(" ", 1)[1])
             at = item.reply[0]
             same = line == ack_line(seen, at)
-            expected = item.rust is not None and ack_line(seen, at) == ack_line_of(item.rust)
+            expected = item.rust is not None and ack_line(seen, at) == bytes_line("a", *item.rust)
             tally.pool_bytes += 3
         else:
-            theirs_line = rust_line(item, text)
-            same = line == theirs_line
-            expected = item.rust is not None and reply_of(text) == item.rust
+            theirs_line = quality_aside(rust_line(item, text))
+            same = quality_aside(line) == theirs_line
+            expected = item.rust is not None and theirs_line == quality_aside(to_line(KINDS[what], *item.rust))
             tally.asked += 1
         if item.rust is None and not same:
             raise Wrong("a difference in no class: the Rust says '%s', ours\n    %s after\n%s" % (
@@ -158,11 +163,6 @@ def judge_rust(items, ours, theirs, tally):
         raise Wrong("the oracle printed %d lines too many" % (len(rest) - 1))
 
 
-def ack_line_of(seen):
-    at, data = seen
-    return ("a %08x %s" % (at, data.hex())).ljust(115) + "\n"
-
-
 def judge_model(items, ours):
     lines = iter(ours)
     for index, item in enumerate(items):
@@ -170,11 +170,12 @@ def judge_model(items, ours):
             continue
         line, expected = next(lines), model_line(item)
         if line != expected:
-            raise Wrong("ours is not what document 01's model says:\n    %s    %s after\n%s" % (
+            raise Wrong("ours is not what the model says:\n    %s    %s after\n%s" % (
                 line, expected, since_start(items, index)))
 
 
 def count(items, tally):
+    tally.qualities.update(qualities(items))
     for item in items:
         if item.call[0] == "start":
             tally.starts += 1
@@ -231,14 +232,15 @@ def check_scripts(programs, what, scripts):
             if replies:
                 ours, _, rust = replies.partition(" <> ")
                 ours_say.append(ours.strip())
-                rust_says.append((rust or ours).strip())
+                rust_says.append(rust.strip() or re.sub(r" q \d+", "", ours).strip())
         out = run(programs[0], "".join(map(to_record, [("clear",)] + calls))).splitlines(keepends=True)
         kinds = [KINDS[c[0]] for c in calls if c[0] not in SILENT]
         for line, kind, say in zip(out, kinds, ours_say, strict=True):
             expected = say if kind == "a" else to_line(kind, *reply_of(say)).strip()
             if (line.split()[2] if kind == "a" else line.strip()) != expected:
                 raise Wrong("%s %s: ours says %s, the list '%s'" % (what, name, line, say))
-        theirs = run_oracle(programs[1], "\n".join("dump" if c[0] == "ack" else to_script(c) for c in calls) + "\n")
+        asked = ["dump" if c[0] == "ack" else to_script(c, quality=False) for c in calls]
+        theirs = run_oracle(programs[1], "\n".join(asked) + "\n")
         settings = calls[0]
         at = 144 * settings[8] + settings[2]
         for text, kind, say in zip(theirs, kinds, rust_says):
@@ -257,6 +259,8 @@ def report(tally, seconds):
     print("classes: " + ", ".join("%s: %d" % (k, v) for k, v in sorted(tally.classes.items())))
     print("calls of the Rust alone: %d" % tally.alone)
     print("destinations: " + ", ".join("%s: %d" % (k, tally.destinations[k]) for k in DESTINATIONS))
+    print("qualities answered: " + ", ".join("%s: %d" % (k, tally.qualities[k]) for k in ANSWERED))
+    print("qualities not answered: " + ", ".join("%s: %d" % (k, tally.qualities[k]) for k in UNANSWERED))
     print("%-16s %9s  %s" % ("wait", "reached", "  ".join("%10s" % c for c in CALLS)))
     for wait in WAITS:
         cells = ["%d/%d" % (tally.accepted[wait, c], tally.pairs[wait, c]) for c in CALLS]
@@ -269,9 +273,10 @@ def check_coverage(tally):
     never = [p for p in ((w, c) for w in WAITS for c in CALLS) if tally.pairs[p] == 0]
     unmet = [n for n in range(2, 12) if tally.refusals[n] == 0]
     absent = [h for h in DESTINATIONS if tally.destinations[h] == 0]
-    if few or never or unmet or absent:
+    untold = [k for k in ANSWERED + UNANSWERED if tally.qualities[k] == 0]
+    if few or never or unmet or absent or untold:
         raise Wrong("waits hardly reached: %s; calls never made in a wait: %s; refusals never met: %s; "
-                    "destinations never met: %s" % (few, never, unmet, absent))
+                    "destinations never met: %s; link qualities never met: %s" % (few, never, unmet, absent, untold))
 
 
 def check_classes(tally, classes, path):

@@ -2,8 +2,9 @@
 
     convert.py records          a script to records; a start is preceded by a record that empties the pool, as the oracle's is,
                                 and a dump becomes dumps of every 48 bytes
-    convert.py script           records to a script; lend and clear, for which the oracle has no word, are left out
-    convert.py lines SCRIPT     the oracle's replies to that script, to lines; a refusal's number, which it does not give, is ff
+    convert.py script           records to a script; lend, clear and link qualities, for which the oracle has no word, are left out
+    convert.py lines SCRIPT     the oracle's replies to that script, to lines; a refusal's number, which it does not give, is ff, a
+                                link quality 00
 
 A line of a script that no record can hold (a number too big for its type, a word that there is not) is named on standard error.
 """
@@ -56,7 +57,7 @@ def script():
             continue
         dump = call[0] in ("dump", "ack")
         if not (dump and dumped):
-            print("dump" if dump else to_script(call))
+            print("dump" if dump else to_script(call, quality=False))
         dumped = dump
 
 

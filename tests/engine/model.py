@@ -1,6 +1,7 @@
-"""Document 01, with request E4, as a plain model, one wait to a name: what a call does to it, with the number of the refusal.
+"""Document 01, with requests E4 and E6, as a plain model, one wait to a name: what a call does to it, with the number of the
+refusal.
 
-Written from the sentences of both (quoted in the comments). It shares nothing with the Rattle engine and its definitions.
+Written from their sentences (quoted in the comments). It shares nothing with the Rattle engine and its definitions.
 Held tokens and buffers are kept as the book of document 01 keeps them, not read off the wait.
 """
 
@@ -150,7 +151,15 @@ class Model:
         return (q.token, what, q.buffer) + rest
 
     def received(self, q, result):
-        return self.answer(q, *result)
+        """The receive answer made from a receive result. Request E6: 'The receive results "frame" and "CRC error" gain the
+        standard's link quality, one byte, and the receive answers made from them, no others, carry it unaltered.'"""
+        if result[0] == "frame":
+            _, length, time, quality = result
+            return self.answer(q, "frame", length, time, quality)
+        if result[0] == "crc":
+            _, time, quality = result
+            return self.answer(q, "crc", time, quality)
+        return self.answer(q, "ended")
 
     # -- refusals
 

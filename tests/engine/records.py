@@ -1,6 +1,7 @@
 """Calls and replies in three forms: tuples, the oracle's script language, and the records and lines of driver_replay.
 
-docs/REPLAY-FORMAT.md has the records and lines, ../shared/oracle/README.md the script language. The tuples:
+docs/REPLAY-FORMAT.md has the records and lines, ../shared/oracle/README.md the script language, and docs/WALK.md what it has more
+here. The tuples:
 
     ("start", n, headroom, tailroom, checksum, hardware, pan, implicit, ack, spare, pool length)
     ("pool", place, bytes)  ("clear",)  ("lend", pool length)  ("dump", place)  ("ack",)
@@ -9,11 +10,12 @@ docs/REPLAY-FORMAT.md has the records and lines, ../shared/oracle/README.md the 
     ("stopped", "frame")  ("stopped", "ended", rx result)  ("stopped", "failed")
     ("header", arrived, length)  ("entered", result, entry)  ("fallback", result, cause)  ("rollback",)
 
-A start is None (best effort) or a time. An rx result is ("frame", length, time), ("ended",) or ("crc", time); a result is
-one of these, ("off",) or ("sent", time); a cause is ("sched", start) or ("task",).
+A start is None (best effort) or a time. An rx result is ("frame", length, time, quality), ("ended",) or ("crc", time, quality);
+a result is one of these, ("off",) or ("sent", time); a cause is ("sched", start) or ("task",).
 
 A reply is (refusal, action, answers): actions and answers are tuples with the words of the script language, flags as 0 or 1,
-without the channel-check flag of error-sched.
+without the channel-check flag of error-sched. The answers "frame" and "crc" have their quality last. The oracle has no word for a
+quality: to_script leaves it out where its quality is False, and one that is not written is read as 0.
 """
 
 KINDS = {
@@ -22,6 +24,29 @@ KINDS = {
 }
 CALLS = ("request", "none", "framestart", "outbound", "stopped", "header", "entered", "fallback", "rollback")
 SILENT = ("pool", "clear", "lend")
+# The calls that tell a result. Field c of their records has a quality, or is not used.
+TELLING = ("stopped", "entered", "fallback")
+# How many parts a result and an answer have, the word and the quality among them.
+RESULT_PARTS = {"off": 1, "sent": 2, "frame": 4, "ended": 1, "crc": 3}
+ANSWER_PARTS = {"sent": 4, "nack": 4, "error-sched": 4, "error-task": 3, "frame": 6, "ended": 3, "crc": 5}
+
+
+def has_quality(what):
+    """Of a result's word or an answer's. Request E6: 'The receive results "frame" and "CRC error" .. and the receive answers made
+    from them, no others'."""
+    return what in ("frame", "crc")
+
+
+def result_of(call):
+    """The result that a call tells, or None."""
+    if call[0] == "stopped":
+        return call[2] if call[1] == "ended" else None
+    return call[1] if call[0] in ("entered", "fallback") else None
+
+
+def quality_of(result):
+    """The quality that a result has, or None."""
+    return result[-1] if result is not None and has_quality(result[0]) else None
 
 
 # ---------------------------------------------------------------- records
@@ -42,13 +67,16 @@ def result_fields(result):
     return ("o" if what == "off" else "w"), 0, 0
 
 
-def to_record(call):
-    """A call, or any other record, as 64 characters."""
+def to_record(call, unused=0):
+    """A call, or any other record, as 64 characters. Where field c of a call that tells a result is not used, it is `unused`."""
     what = call[0]
     kind = KINDS[what]
+    if what in TELLING:
+        quality = quality_of(result_of(call))
+        c = unused if quality is None else unused & 0xFF00 | quality
     if what == "entered":
         w, b, d = result_fields(call[1])
-        return record(kind, b=b, d=d, e=call[2], w=w)
+        return record(kind, b=b, c=c, d=d, e=call[2], w=w)
     if what == "request":
         _, token, direction, start, buffer = call[:5]
         y, d = ("b", 0) if start is None else ("t", start)
@@ -63,17 +91,17 @@ def to_record(call):
     if what == "stopped":
         if call[1] == "ended":
             w, b, d = result_fields(call[2])
-            return record(kind, b=b, d=d, x="e", w=w)
-        return record(kind, x="f" if call[1] == "frame" else "x")
+            return record(kind, b=b, c=c, d=d, x="e", w=w)
+        return record(kind, c=c, x="f" if call[1] == "frame" else "x")
     if what == "header":
         return record(kind, b=call[1], c=call[2])
     if what == "fallback":
         w, b, d = result_fields(call[1])
         if call[2][0] == "task":
-            return record(kind, b=b, d=d, x="t", w=w)
+            return record(kind, b=b, c=c, d=d, x="t", w=w)
         start = call[2][1]
         y, e = ("b", 0) if start is None else ("t", start)
-        return record(kind, b=b, d=d, e=e, x="s", y=y, w=w)
+        return record(kind, b=b, c=c, d=d, e=e, x="s", y=y, w=w)
     if what == "outbound":
         y, d = ("b", 0) if call[1] is None else ("t", call[1])
         return record(kind, d=d, y=y, z=call[2])
@@ -91,7 +119,7 @@ def from_record(text):
     """The tuple of a record."""
     kind, a, b, c, d, e, x, y, z, w = text.split()
     a, b, c, d, e, z = int(a, 16), int(b, 16), int(c, 16), int(d, 16), int(e, 16), int(z)
-    rx = {"f": ("frame", b, d), "w": ("ended",), "c": ("crc", d)}
+    rx = {"f": ("frame", b, d, c & 255), "w": ("ended",), "c": ("crc", d, c & 255)}
     result = {"o": ("off",), "s": ("sent", d), **rx}
     what = {v: k for k, v in KINDS.items()}[kind]
     if what == "start":
@@ -118,12 +146,19 @@ def from_record(text):
     return (what,)
 
 
+def unused_of(text):
+    """What field c of a record holds, for to_record, where the call tells a result; else 0."""
+    return int(text.split()[3], 16) if text[0] in [KINDS[what] for what in TELLING] else 0
+
+
 # ---------------------------------------------------------------- lines
+
+WIDTH = 121     # of a line, without its end
 
 SPACING = {"none": "n", "ack": "a", "short": "s", "long": "l"}
 ANSWER = {"sent": "s", "nack": "n", "error-sched": "e", "error-task": "t", "frame": "f", "ended": "w", "crc": "c"}
 NO_ACTION = "%s 00 0000 %d - %016x - 0"
-NO_ANSWER = "- 00000000 00 0000 - 0000000000000000"
+NO_ANSWER = "- 00000000 00 0000 - 0000000000000000 00"
 
 
 def action_text(action):
@@ -152,31 +187,48 @@ def action_text(action):
 
 def answer_text(answer):
     token, what, buffer = answer[:3]
-    length, start, time = 0, "-", 0
+    assert len(answer) == ANSWER_PARTS[what], answer
+    length, start, time, quality = 0, "-", 0, 0
     if what == "frame":
-        length, time = answer[3], answer[4]
+        length, time, quality = answer[3:]
+    elif what == "crc":
+        time, quality = answer[3:]
     elif what == "error-sched":
         start, time = ("b", 0) if answer[3] is None else ("t", answer[3])
-    elif len(answer) > 3:
+    elif what in ("sent", "nack"):
         time = answer[3]
-    return "%s %08x %02x %04x %s %016x" % (ANSWER[what], token, buffer, length, start, time)
+    return "%s %08x %02x %04x %s %016x %02x" % (ANSWER[what], token, buffer, length, start, time, quality)
 
 
 def to_line(kind, refusal, action, answers):
-    """The line that driver_replay prints for a call of this kind: 116 characters."""
+    """The line that driver_replay prints for a call of this kind: 122 characters."""
     if refusal:
         return "%s %02x - 00 0000 0 - 0000000000000000 - 0 %s %s\n" % (kind, refusal, NO_ANSWER, NO_ANSWER)
     texts = [answer_text(a) for a in answers] + [NO_ANSWER, NO_ANSWER]
     return "%s 00 %s %s %s\n" % (kind, action_text(action), texts[0], texts[1])
 
 
+def with_qualities(line, first, second):
+    """A call's line with these two digits each for the qualities of its two answers."""
+    return line[:78] + first + line[80:119] + second + line[121:]
+
+
+def quality_aside(line):
+    """A call's line as it is compared with the Rust, which has no qualities."""
+    return with_qualities(line, "--", "--")
+
+
+def bytes_line(kind, place, data):
+    return ("%s %08x %s" % (kind, place, data.hex())).ljust(WIDTH) + "\n"
+
+
 def dump_line(pool, place):
     data = bytes(pool[place:place + 48])
-    return "d %08x %s        \n" % (place, (data + bytes(48 - len(data))).hex())
+    return bytes_line("d", place, data + bytes(48 - len(data)))
 
 
 def ack_line(pool, place):
-    return ("a %08x %s" % (place, bytes(pool[place:place + 3]).hex())).ljust(115) + "\n"
+    return bytes_line("a", place, bytes(pool[place:place + 3]))
 
 
 # ---------------------------------------------------------------- the oracle's language
@@ -185,15 +237,17 @@ def start_word(start):
     return "best" if start is None else str(start)
 
 
-def result_word(result):
-    return ":".join(str(part) for part in result)
+def result_word(result, quality):
+    parts = result if quality or not has_quality(result[0]) else result[:-1]
+    return ":".join(str(part) for part in parts)
 
 
-def to_script(call):
-    """A call as a line of the oracle's script. Records that it has no word for are words of WALK.md only."""
+def to_script(call, quality=True):
+    """A call as a line of a script, with its result's quality or, as the oracle has it, without. Records that the oracle has no
+    word for are words of WALK.md only."""
     what = call[0]
     if what == "entered":
-        return "entered %s %d" % (result_word(call[1]), call[2])
+        return "entered %s %d" % (result_word(call[1], quality), call[2])
     if what == "request":
         if call[2] == "rx":
             return "request %d rx %s %d" % (call[1], start_word(call[3]), call[4])
@@ -201,13 +255,13 @@ def to_script(call):
     if what == "pool":
         return "pool %d %d %s" % (call[1] // 144, call[1] % 144, call[2].hex())
     if what == "stopped":
-        return "stopped ended %s" % result_word(call[2]) if call[1] == "ended" else "stopped %s" % call[1]
+        return "stopped ended %s" % result_word(call[2], quality) if call[1] == "ended" else "stopped %s" % call[1]
     if what == "header":
         return "header %d %d" % call[1:]
     if what == "fallback":
         cause = call[2]
         word = "task" if cause[0] == "task" else "sched" if cause[1] is None else "sched:%d" % cause[1]
-        return "fallback %s %s" % (result_word(call[1]), word)
+        return "fallback %s %s" % (result_word(call[1], quality), word)
     if what == "outbound":
         return "outbound %s %d" % (start_word(call[1]), call[2])
     if what == "start":
@@ -223,8 +277,12 @@ def word_start(word):
 
 
 def word_result(word):
-    parts = word.split(":")
-    return (parts[0],) + tuple(int(p) for p in parts[1:])
+    what, *numbers = word.split(":")
+    if has_quality(what) and len(numbers) == RESULT_PARTS[what] - 2:
+        numbers.append("0")
+    if len(numbers) != RESULT_PARTS[what] - 1 or has_quality(what) and not 0 <= int(numbers[-1]) <= 255:
+        raise ValueError(word)
+    return (what,) + tuple(int(n) for n in numbers)
 
 
 def from_script(text):
@@ -280,8 +338,12 @@ def answer_of(text):
     words = text.split()
     token, what, buffer = int(words[0]), words[1], int(words[2])
     if what == "error-sched":
+        assert len(words) < 6, text     # the flag may follow
         return (token, what, buffer, word_start(words[3]))
-    return (token, what, buffer) + tuple(int(w) for w in words[3:])
+    numbers = words[3:]
+    if has_quality(what):
+        numbers = numbers[:-2] + numbers[-1:] if numbers[-2:-1] == ["q"] else numbers + ["0"]
+    return (token, what, buffer) + tuple(int(n) for n in numbers)
 
 
 def reply_of(text):

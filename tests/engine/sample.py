@@ -4,25 +4,27 @@
     sample.py rust FOLDER ORACLE     the rest of them is what the oracle says; it is never made from our program's output
     sample.py make FOLDER ORACLE     writes both files
 
-Of a line of the rest, a refusal's number is the model's (the Rust has none), and so is the whole line where the Rust is not asked
-(refusals 2, 6, 7 and 8 of docs/DIFFERENCES.md, "Not asked of the Rust"). In the class damaged-ack-off the Rust's rollback flag is
-taken off. At the Header call of a broadcast with request bit and number (request E4) the oracle's frame has bit 5 clear. Everything
-else is the oracle's.
+Of a line of the rest, a refusal's number and the link qualities of the answers (request E6) are the model's, as the Rust has none,
+and so is the whole line where the Rust is not asked (refusals 2, 6, 7 and 8 of docs/DIFFERENCES.md, "Not asked of the Rust"). In
+the class damaged-ack-off the Rust's rollback flag is taken off. At the Header call of a broadcast with request bit and number
+(request E4) the oracle's frame has bit 5 clear. Everything else is the oracle's.
 """
 
 import re
 import sys
 
-from compare import Wrong, records, run, rust_line, script
+from compare import Wrong, model_line, records, run, rust_line, script
 from model import WAITS
-from records import CALLS, KINDS, SILENT, ack_line, dump_line, from_record, from_script, reply_of, to_line, to_record
-from walk import DESTINATIONS, Walk
+from records import (CALLS, KINDS, SILENT, TELLING, ack_line, bytes_line, dump_line, from_record, from_script, reply_of, to_line,
+                     to_record, unused_of, with_qualities)
+from walk import ANSWERED, DESTINATIONS, UNANSWERED, Walk, qualities
 
 ROW = re.compile(r"^(  \d|[ \d]\d\d|   )  (?:(.*?) -> )?(.*?)(?:  # .*)?$")
 CALLS_OF_SAMPLE = 3000
-# What the sample must meet: each call in each wait, and the destinations around request E4. Rollback in ackrx-off makes the states
-# diverge; docs/WALK.md has it.
-DEMANDED = {(w, c) for w in WAITS for c in CALLS} - {("ackrx-off", "rollback")} | {("destination", d) for d in DESTINATIONS}
+# What the sample must meet: each call in each wait, the destinations around request E4 and the link qualities of E6. Rollback in
+# ackrx-off makes the states diverge; docs/WALK.md has it.
+DEMANDED = ({(w, c) for w in WAITS for c in CALLS} - {("ackrx-off", "rollback")} | {("destination", d) for d in DESTINATIONS}
+            | {("quality", k) for k in ANSWERED + UNANSWERED})
 
 
 def scripted(path):
@@ -46,9 +48,9 @@ def scripted(path):
             raise Wrong("row %s of %s is row %d" % (number, path, len(lines) + 1))
         kind = KINDS[made[0]]
         if kind == "d":
-            lines.append("d %08x %s        \n" % (made[1], reply.ljust(96, "0")))
+            lines.append(bytes_line("d", made[1], bytes.fromhex(reply.ljust(96, "0"))))
         elif kind == "a":
-            lines.append(("a %08x %s" % (ack, reply)).ljust(115) + "\n")
+            lines.append(bytes_line("a", ack, bytes.fromhex(reply)))
         else:
             if kind == "s" and reply.startswith("ok"):
                 ack = 144 * made[8] + made[2]
@@ -57,7 +59,8 @@ def scripted(path):
 
 
 def met(items):
-    return {(item.wait, item.call[0]) for item in items} | {("destination", item.about) for item in items}
+    return ({(item.wait, item.call[0]) for item in items} | {("destination", item.about) for item in items}
+            | {("quality", kind) for kind in qualities(items)})
 
 
 def sampled():
@@ -76,10 +79,11 @@ def sampled():
     return items
 
 
-def noted(calls):
-    """The items of given calls, such as the sample's."""
+def noted(texts):
+    """The items of given records, such as the sample's."""
     walk = Walk(0, classes=False)
-    for call in calls:
+    for text in texts:
+        call = from_record(text)
         what = call[0]
         if what in SILENT:
             walk.model.other(call)
@@ -91,13 +95,15 @@ def noted(calls):
             walk.put(call, asked=walk.items[-1].call[0] != "dump")
         elif what == "ack":
             walk.put(call, reply=(walk.model.frame(walk.model.ack), None), asked=True)
+        elif what in TELLING:
+            walk.note(call, unused=unused_of(text))
         else:
             walk.note(call)
     return walk.items, walk.calls, DEMANDED - met(walk.items)
 
 
 def rust_lines(items, oracle):
-    """What must be printed for the sample, from the oracle's replies."""
+    """What must be printed for the sample, from the oracle's replies, with the model's link qualities."""
     replies = iter(run(oracle, script(items)).splitlines())
     lines, pool = [], None
     for item in items:
@@ -115,7 +121,8 @@ def rust_lines(items, oracle):
                 raise Wrong("the Rust does not go off with rollback on")
             lines.append(to_line(KINDS[what], 0, ("off", 0), ()))
         else:
-            lines.append(rust_line(item, next(replies)))
+            line = model_line(item)
+            lines.append(with_qualities(rust_line(item, next(replies)), line[78:80], line[119:121]))
     return lines
 
 
@@ -136,10 +143,10 @@ def main():
     if not found.startswith(stdin):
         raise Wrong("%s/stdin does not begin with docs/WALK.md" % folder)
     rest = found[len(stdin):].splitlines(keepends=True)
-    items, made, missing = noted([from_record(text) for text in rest])
+    items, made, missing = noted(rest)
     same = (found == stdin + records(items)
             and open(folder + "/stdout").read() == stdout + "".join(rust_lines(items, sys.argv[3])))
-    print("%d calls of the sample; pairs of wait and call, and destinations, that are missing: %s; the files are %s" % (
+    print("%d calls of the sample; pairs of wait and call, destinations and link qualities missing: %s; the files are %s" % (
         made, sorted(missing) or "none", "what the Rust says" if same else "NOT what the Rust says"))
     return 0 if same and not missing else 1
 

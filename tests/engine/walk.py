@@ -5,7 +5,7 @@ gets so that both sides go on from the same state."""
 import random
 
 from model import FITS, SIZE, TAKES, TOP, Model, header_length, pans, suppressed, well_formed
-from records import CALLS, pool_writes
+from records import CALLS, TELLING, pool_writes, quality_of, result_of
 
 NUMBERS = (0, 1, 2, 9999, 10000, 1000000, 1 << 32, (1 << 63) - 1, 1 << 63, TOP - 10001, TOP - 10000, TOP - 9999, TOP - 1, TOP)
 TX_LENGTHS = (0, 1, 2, 3, 4, 13, 14, 15, 16, 17, 18, 19, 123, 124, 125, 126, 127, 65535)
@@ -22,13 +22,30 @@ DESTINATIONS = (
     "our short in PAN FFFF", "our extended in PAN FFFF", "eight FF, ours", "eight FF, not ours", "none, implicit broadcast off",
     "FFFF, sent", "none, sent",
 )
+# Where request E6 has an answer carry the quality, by wait and call.
+WAYS = {
+    ("rx-off", "entered"): "after None", ("rx-tx", "entered"): "after Request Tx", ("rx-rx", "entered"): "after Request Rx",
+    ("ack-turn", "entered"): "in an ACK turn", ("rx-tx", "fallback"): "at Fallback",
+}
+RECEIVED = {"frame": "frame", "crc": "CRC error"}
+# The answers with a quality that a comparison must meet. "another": the quality of the last re-arm, or of the last refused call,
+# was another one and not 0.
+ANSWERED = tuple("%s %s" % (r, way) for r in RECEIVED.values() for way in WAYS.values()) + (
+    "quality 0", "quality 255", "after a re-arm with another", "after a refused call with another",
+)
+# The calls, and the answers, without a quality that a comparison must meet: where the radio has told one that is not 0, or where
+# field c of the record, which is not used, is not 0.
+UNANSWERED = tuple("%s by a %s%s" % (*by, where) for where in (", Entered", ", Fallback")
+                   for by in (("Sent", "frame"), ("Nack", "frame"), ("Nack", "CRC error"))) + tuple(
+    "%s a %s" % (told, r) for told in ("window ended with", "ACK window ended with", "re-arm after", "refused with")
+    for r in RECEIVED.values()) + ("window ended, c not 0", "Sent, c not 0", "error after a frame", "error after a CRC error")
 
 
 class Item:
     """One record: the call, the model's reply, the wait before it, and how the Rust is compared."""
-    __slots__ = ("call", "reply", "wait", "asked", "group", "rust", "ours", "about")
+    __slots__ = ("call", "reply", "wait", "asked", "group", "rust", "ours", "about", "unused")
 
-    def __init__(self, call, reply=None, wait=None, asked=False, group=None, rust=None, ours=True, about=None):
+    def __init__(self, call, reply=None, wait=None, asked=False, group=None, rust=None, ours=True, about=None, unused=0):
         self.call = call
         self.reply = reply      # (refusal, action, answers), or the bytes that a dump shows
         self.wait = wait
@@ -37,11 +54,65 @@ class Item:
         self.rust = rust        # what the Rust replies; None if it is our reply (to the last call, where ours gets none)
         self.ours = ours        # our program gets it
         self.about = about      # which of DESTINATIONS it is about, or None
+        self.unused = unused    # what field c of its record holds where it is not used
+
+
+def qualities(items):
+    """Which of ANSWERED and UNANSWERED the items meet, each as often as they do."""
+    window = rearmed = refused = None       # what ended the last window, and the qualities of the last re-arm and refused call
+    for item in items:
+        what, wait = item.call[0], item.wait
+        if wait is None:
+            continue
+        refusal, _, answers = item.reply
+        if wait == "start":
+            if not refusal:
+                window = rearmed = refused = None
+            continue
+        result = result_of(item.call)
+        quality = quality_of(result)
+        name = RECEIVED[result[0]] if quality is not None else None
+        if refusal:
+            if quality:
+                refused = quality
+                yield "refused with a " + name
+            continue
+        first = answers[0] if answers else None
+        if what == "stopped":
+            window = name if quality else None
+        elif wait == "ask-window" and window:
+            yield "window ended with a " + window
+        elif wait == "ask-ack-window" and window:
+            yield "ACK window ended with a " + window
+        elif wait == "rearm":
+            rearmed = quality
+            if quality:
+                yield "re-arm after a " + name
+        elif wait.startswith("ackrx"):
+            if quality:
+                yield "%s by a %s, %s" % ("Sent" if first[1] == "sent" else "Nack", name, what.capitalize())
+        elif quality is not None:
+            yield "%s %s" % (name, WAYS[wait, what])
+            if what == "fallback" and quality:
+                yield "error after a " + name
+            if quality in (0, 255):
+                yield "quality %d" % quality
+            if rearmed and rearmed != quality:
+                yield "after a re-arm with another"
+            if refused and refused != quality:
+                yield "after a refused call with another"
+        elif first and what in ("entered", "fallback") and first[1] in ("ended", "sent") and item.unused & 255:
+            yield "%s, c not 0" % ("Sent" if first[1] == "sent" else "window ended")
+        if first and first[1] in ("frame", "crc", "ended"):
+            rearmed = None
+        if result is not None:
+            refused = None
 
 
 class Walk:
     def __init__(self, seed, classes=True):
         self.random = random.Random(seed)
+        self.dice = random.Random("quality %s" % seed)      # apart, so that the walks are those of before request E6
         self.model = Model()
         self.items = []
         self.calls = 0
@@ -69,6 +140,8 @@ class Walk:
     # ---- records
 
     def put(self, call, **rest):
+        if call[0] in TELLING:
+            rest.setdefault("unused", self.dice.getrandbits(16))
         self.items.append(Item(call, **rest))
 
     def write(self, place, data):
@@ -217,11 +290,14 @@ class Walk:
         r = self.random
         return r.choice(RX_LENGTHS) if self.chance(25) else r.randrange(1, 128 - self.model.f)
 
+    def quality(self):
+        return self.dice.choice((0, 0, 1, 127, 128, 254, 255, 255)) if self.dice.random() < 0.2 else self.dice.getrandbits(8)
+
     def rx_result(self, kinds=("frame", "ended", "crc"), length=None):
         kind = self.random.choice(kinds)
         if kind == "frame":
-            return (kind, self.rx_length() if length is None else length, self.time())
-        return (kind, self.time()) if kind == "crc" else (kind,)
+            return (kind, self.rx_length() if length is None else length, self.time(), self.quality())
+        return (kind, self.time(), self.quality()) if kind == "crc" else (kind,)
 
     def result(self, kinds):
         kind = self.random.choice(kinds)
@@ -344,7 +420,7 @@ class Walk:
     def awaited(self):
         m = self.model
         self.write(m.frame(m.spare), self.ack_bytes(m.data[0][0].number))
-        return ("frame", 3 if self.chance(85) else self.rx_length(), self.time())
+        return ("frame", 3 if self.chance(85) else self.rx_length(), self.time(), self.quality())
 
     # ---- what the Rust does
 
@@ -424,7 +500,7 @@ class Walk:
 
     # ---- the walk
 
-    def note(self, call):
+    def note(self, call, **rest):
         """Makes a call on the model, and notes it with what is expected of the Rust. Returns the ACK frame before it."""
         m = self.model
         wait = m.wait
@@ -441,7 +517,7 @@ class Walk:
         reply = m.step(call)
         if group and rust is None:
             rust = self.rust_reply(group, call, reply)
-        self.put(call, reply=reply, wait=wait, asked=self.is_asked(call, reply[0]), group=group, rust=rust, about=about)
+        self.put(call, reply=reply, wait=wait, asked=self.is_asked(call, reply[0]), group=group, rust=rust, about=about, **rest)
         self.calls += 1
         if broadcast:
             if group:

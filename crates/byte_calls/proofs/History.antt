@@ -42,10 +42,10 @@ use Rattle.byte_calls.proofs.Ranges.{ResultIn, CallIn, SettingsIn, Stat
 use Rattle.byte_calls.proofs.Apart.{valid, fits}
 
 -- ---- The numbers of an exported call are in range as the engine's
-result-in : (length time code : ℕ) → time < 2 ^ 64 → ResultIn (resultOf length time code)
+result-in : (length time quality code : ℕ) → time < 2 ^ 64 → ResultIn (resultOf length time quality code)
 unfolding resultOf
-result-in length time code t =
-    picked (λ (r : TaskResult). ResultIn r) (resultTable length time) _ code (tt, (t, (t, (tt, (t, tt))))) t
+result-in length time quality code t =
+    picked (λ (r : TaskResult). ResultIn r) (resultTable length time quality) _ code (tt, (t, (t, (tt, (t, tt))))) t
 
 start-in : (time code : ℕ) → time < 2 ^ 64 → TimestampFits (timestampOf time code)
 unfolding timestampOf
@@ -61,10 +61,10 @@ call-in (ExportedCall.Request token direction start time buffer length cca) N = 
 call-in ExportedCall.None N = tt
 call-in ExportedCall.FrameStart N = tt
 call-in (ExportedCall.OutboundSeen start time cca) N = start-in time start N
-call-in (ExportedCall.Stopped outcome length time) N = tt
+call-in (ExportedCall.Stopped outcome length time quality) N = tt
 call-in (ExportedCall.Header arrived length) N = tt
-call-in (ExportedCall.Entered result length time entry) N = result-in length time result (N .1)
-call-in (ExportedCall.Fallback result length time cause causeTime) N = (result-in length time result (N .1), cause-in causeTime cause (N .2))
+call-in (ExportedCall.Entered result length time entry quality) N = result-in length time quality result (N .1)
+call-in (ExportedCall.Fallback result length time cause causeTime quality) N = (result-in length time quality result (N .1), cause-in causeTime cause (N .2))
 call-in ExportedCall.Rollback N = tt
 
 -- ---- What every call keeps

@@ -94,9 +94,9 @@ pub record MoveIn (m : Move) : Type 0 where
 
 -- the numbers of a call
 abbrev pub ReceivedIn : RxResult → Type 0
-ReceivedIn (RxResult.Frame n t) = t < 2 ^ 64
+ReceivedIn (RxResult.Frame n t quality) = t < 2 ^ 64
 ReceivedIn RxResult.RxWindowEnded = Unit {0}
-ReceivedIn (RxResult.CrcError t) = t < 2 ^ 64
+ReceivedIn (RxResult.CrcError t quality) = t < 2 ^ 64
 
 abbrev pub ResultIn : TaskResult → Type 0
 ResultIn TaskResult.Off = Unit {0}
@@ -128,12 +128,12 @@ guard-in s k m S f = go (eqb k 0) refl
 
 received-fits : (set : Settings) (x : RxResult) → ReceivedIn x → receivedRefusal set x ≡ 0 → ReceivedFits x
 unfolding receivedRefusal receivedUnfit
-received-fits set (RxResult.Frame n t) F h =
+received-fits set (RxResult.Frame n t quality) F h =
     let p = passed (eqb n 0 || ltb 127 (n + set .«fcs_length»)) 10 0 (omega arith) h in
     let q = neither (eqb n 0) (ltb 127 (n + set .«fcs_length»)) (p .0) in
     (omega (arith, ltb-false 127 (n + set .«fcs_length») (q .1)), F)
 received-fits set RxResult.RxWindowEnded F h = tt
-received-fits set (RxResult.CrcError t) F h = F
+received-fits set (RxResult.CrcError t quality) F h = F
 
 module _ (set : Settings) (S : SettingsIn set) (pool : List ℕ) (A : AllBytes pool) where
   abbrev n : ℕ
@@ -264,9 +264,9 @@ module _ (set : Settings) (S : SettingsIn set) (pool : List ℕ) (A : AllBytes p
   leave-in Left.SendingAck (TaskResult.Rx x) K R h = tt
   leave-in (Left.ReceivingAck a) TaskResult.Off K R h = tt
   leave-in (Left.ReceivingAck a) (TaskResult.Sent t) K R h = tt
-  leave-in (Left.ReceivingAck a) (TaskResult.Rx (RxResult.Frame l t)) K R h = ack-response-in a l (K .0) (K .4)
+  leave-in (Left.ReceivingAck a) (TaskResult.Rx (RxResult.Frame l t quality)) K R h = ack-response-in a l (K .0) (K .4)
   leave-in (Left.ReceivingAck a) (TaskResult.Rx RxResult.RxWindowEnded) K R h = tt
-  leave-in (Left.ReceivingAck a) (TaskResult.Rx (RxResult.CrcError t)) K R h = record { token = K .0; response = K .4 }
+  leave-in (Left.ReceivingAck a) (TaskResult.Rx (RxResult.CrcError t quality)) K R h = record { token = K .0; response = K .4 }
 
   arrive-in : (m : Next) (x : Answers) → PartIn n (nextPart m) → AnswersFit x → MoveIn (arrivalOf set x m)
   unfolding arrivalOf sendingMove nextPart txPart waitParts transitionParts askedPart

@@ -1,14 +1,16 @@
 -- What an exported call or start returns, and every byte of the three slices after it: document 01, "Refusals, in checking order".
 -- Assumes nothing.
-use Prim.Native.Nat.{ℕ}
+use Prim.Native.Nat.{ℕ, _+_}
 use mathlib.Core.Path.{_≡_}
 use mathlib.Core.Logic.{_↔_}
-use mathlib.Core.Bool.{true, cond, not, _||_}
+use mathlib.Core.Bool.{Bool, true, false, cond, not, _||_}
 use mathlib.Core.List.{List}
-use lib.ListN.{length}
+use lib.Dec.{eqb}
+use lib.ListN.{length, getD, set}
 use Rattle.util.specs.Bytes.{AllBytes}
 use Rattle.radio_frame.specs.Settings.{poolUnfit, roomsUnfit, ownBuffersUnfit}
 use Rattle.tasks.specs.declared.State.{State}
+use Rattle.tasks.specs.Quality.{Quality, noQuality, linkQuality}
 use Rattle.engine.specs.Step.{stepOf, stepPool}
 use Rattle.engine.specs.Refusals.{fits, laterRefusal}
 use Rattle.state_bytes.specs.Layout.{stateAt, writtenState}
@@ -16,7 +18,7 @@ use Rattle.state_bytes.specs.Valid.{validState, StateFits}
 use Rattle.reply_bytes.specs.Reply.{writtenReply}
 use Rattle.call_codes.specs.declared.ExportedCall.{ExportedCall}
 use Rattle.call_codes.specs.declared.StartNumbers.{StartNumbers}
-use Rattle.call_codes.specs.Codes.{knownFlag, knownOf, callOf, settingsOf}
+use Rattle.call_codes.specs.Codes.{knownFlag, knownOf, callOf, settingsOf, withQuality, usesQuality, qualityUsed}
 use Rattle.slices.specs.Slices.{slicesFit, formOk, ifAccepted, RightForm}
 use Rattle.outcomes.specs.Outcomes.{madeOutcome, madePool, begunOutcome, begunPool}
 
@@ -46,6 +48,40 @@ callReply st re po x = ifAccepted (callResult st re po x) (writtenReply (madeOut
 unfoldable pub callPool : List ℕ → List ℕ → List ℕ → ExportedCall → List ℕ
 callPool st re po x = ifAccepted (callResult st re po x) (madePool (stateAt st) po x) po
 
+-- ---- The link quality: document 02, E6
+
+-- the link quality that a call tells of the task that the radio left, or none
+abbrev pub toldNumber : ExportedCall → Quality
+toldNumber (ExportedCall.Request token direction start time buffer length cca) = noQuality
+toldNumber ExportedCall.None = noQuality
+toldNumber ExportedCall.FrameStart = noQuality
+toldNumber (ExportedCall.OutboundSeen start time cca) = noQuality
+toldNumber (ExportedCall.Stopped outcome length time quality) = noQuality
+toldNumber (ExportedCall.Header arrived length) = noQuality
+toldNumber (ExportedCall.Entered result length time entry quality) = cond (usesQuality result) (linkQuality quality) noQuality
+toldNumber (ExportedCall.Fallback result length time cause causeTime quality) =
+    cond (usesQuality result) (linkQuality quality) noQuality
+toldNumber ExportedCall.Rollback = noQuality
+
+-- the codes of answers that have one: "6 a frame was received", "8 CRC error"; of receive answers: these and "7 window ended"
+abbrev pub hasQuality : ℕ → Bool
+hasQuality code = eqb code 6 || eqb code 8
+
+abbrev pub answersReceive : ℕ → Bool
+answersReceive code = hasQuality code || eqb code 7
+
+-- the answer that stands at a place of the reply: what it carries in byte 15
+abbrev pub qualityAt : List ℕ → ℕ → Quality
+qualityAt re at = cond (hasQuality (getD re at 0)) (linkQuality (getD re (at + 15) 0)) noQuality
+
+pub record CarriesQuality (x : ExportedCall) (re : List ℕ) (at : ℕ) : Type 0 where
+  -- a receive answer carries what this very call tells, and none if none is told; every other answer carries none ..
+  pub carried : qualityAt re at ≡ cond (answersReceive (getD re at 0)) (toldNumber x) noQuality
+  -- .. and where there is none, byte 15 is 0
+  pub else-zero : hasQuality (getD re at 0) ≡ false → getD re (at + 15) 0 ≡ 0
+
+-- ---- The promise
+
 -- the promise of an exported call: of the state, reply and pool slices and the numbers at entry, the returned number and the slices
 -- at exit
 pub record Called (st re po : List ℕ) (x : ExportedCall) (r : ℕ) (st′ re′ po′ : List ℕ) : Type 0 where
@@ -60,6 +96,8 @@ pub record Called (st re po : List ℕ) (x : ExportedCall) (r : ℕ) (st′ re�
       AllBytes st → r ≡ 1 ↔ (RightForm st (length re) → ⊥)
   -- .. and "state, pool, state slice and reply slice keep their bytes"
   pub unchanged : (r ≡ 0 → ⊥) → (st′ ≡ st) × (re′ ≡ re) × (po′ ≡ po)
+  -- both answers of an accepted call carry the link quality that was told in it, where they have one
+  pub qualities : r ≡ 0 → CarriesQuality x re′ 12 × CarriesQuality x re′ 30
 
 -- ---- A start
 
@@ -83,7 +121,7 @@ startRefusal n st re po =
     (cond (roomsUnfit (settingsOf n) || not (knownFlag (n .«implicit_broadcast»))) 3
     (cond (ownBuffersUnfit (settingsOf n)) 4 0)))
 
--- ---- A law of these definitions; proofs/Laws.antt has its proof.
+-- ---- Laws of these definitions; proofs/Laws.antt and proofs/Qualities.antt have their proofs.
 
 -- a call whose codes stand for something, on the bytes of a valid state, is the engine's call between reading and writing
 pub record EnginesCall (s : State) (re po : List ℕ) (x : ExportedCall) : Type 0 where
@@ -101,3 +139,21 @@ Between =
     length re ≡ 48 →
     knownOf x ≡ true →
     EnginesCall s re po x
+
+-- a reply with the two answers' bytes 15 of another
+abbrev pub butQualities : List ℕ → List ℕ → List ℕ
+butQualities re re′ = set (set re (12 + 15) (getD re′ (12 + 15) 0)) (30 + 15) (getD re′ (30 + 15) 0)
+
+-- Passed another number for the link quality, a call returns the same number and leaves the same state and pool; its reply is the same
+-- but for the two bytes, and the same where the code leaves the quality unused.
+pub record QualityApart (st re po : List ℕ) (x : ExportedCall) (k : ℕ) : Type 0 where
+  pub result : callResult st re po (withQuality k x) ≡ callResult st re po x
+  pub state : callState st re po (withQuality k x) ≡ callState st re po x
+  pub pool : callPool st re po (withQuality k x) ≡ callPool st re po x
+  pub reply :
+      callResult st re po x ≡ 0 →
+      callReply st re po (withQuality k x) ≡ butQualities (callReply st re po x) (callReply st re po (withQuality k x))
+  pub ignored : qualityUsed x ≡ false → callReply st re po (withQuality k x) ≡ callReply st re po x
+
+abbrev pub QualityChangesNoOtherByte : Type 0
+QualityChangesNoOtherByte = (st re po : List ℕ) (x : ExportedCall) (k : ℕ) → QualityApart st re po x k

@@ -67,10 +67,10 @@ NumbersFit (ExportedCall.Request token direction start time buffer length cca) =
 NumbersFit ExportedCall.None = Unit {0}
 NumbersFit ExportedCall.FrameStart = Unit {0}
 NumbersFit (ExportedCall.OutboundSeen start time cca) = time < 2 ^ 64
-NumbersFit (ExportedCall.Stopped outcome length time) = (length < 2 ^ 16) × (time < 2 ^ 64)
+NumbersFit (ExportedCall.Stopped outcome length time quality) = (length < 2 ^ 16) × (time < 2 ^ 64)
 NumbersFit (ExportedCall.Header arrived length) = (arrived < 2 ^ 16) × (length < 2 ^ 16)
-NumbersFit (ExportedCall.Entered result length time entry) = (length < 2 ^ 16) × (time < 2 ^ 64) × (entry < 2 ^ 64)
-NumbersFit (ExportedCall.Fallback result length time cause causeTime) =
+NumbersFit (ExportedCall.Entered result length time entry quality) = (length < 2 ^ 16) × (time < 2 ^ 64) × (entry < 2 ^ 64)
+NumbersFit (ExportedCall.Fallback result length time cause causeTime quality) =
     (length < 2 ^ 16) × (time < 2 ^ 64) × (causeTime < 2 ^ 64)
 NumbersFit ExportedCall.Rollback = Unit {0}
 

@@ -29,13 +29,13 @@ pub task-past : (length cca code : ℕ) → 1 ≤ code → Task.Rx ≡ taskOf le
 unfolding taskOf
 task-past length cca code h = last (Task.Tx length (eqb cca 1) ∷ []) Task.Rx code h
 
-pub stop-past : (length time code : ℕ) → 4 ≤ code → StopResult.RxWindowEnded (RxResult.CrcError time) ≡ stopOf length time code
+pub stop-past : (length time quality code : ℕ) → 4 ≤ code → StopResult.RxWindowEnded (RxResult.CrcError time quality) ≡ stopOf length time quality code
 unfolding stopOf
-stop-past length time code h = last (take 4 (stopTable length time)) (StopResult.RxWindowEnded (RxResult.CrcError time)) code h
+stop-past length time quality code h = last (take 4 (stopTable length time quality)) (StopResult.RxWindowEnded (RxResult.CrcError time quality)) code h
 
-pub result-past : (length time code : ℕ) → 4 ≤ code → TaskResult.Rx (RxResult.CrcError time) ≡ resultOf length time code
+pub result-past : (length time quality code : ℕ) → 4 ≤ code → TaskResult.Rx (RxResult.CrcError time quality) ≡ resultOf length time quality code
 unfolding resultOf
-result-past length time code h = last (take 4 (resultTable length time)) (TaskResult.Rx (RxResult.CrcError time)) code h
+result-past length time quality code h = last (take 4 (resultTable length time quality)) (TaskResult.Rx (RxResult.CrcError time quality)) code h
 
 pub cause-past : (time code : ℕ) → 2 ≤ code → Cause.Task ≡ causeOf time code
 unfolding causeOf

@@ -17,10 +17,10 @@ pub enum ExportedCall {
     None,
     FrameStart,
     OutboundSeen(u8, u64, u8),
-    Stopped(u8, u16, u64),
+    Stopped(u8, u16, u64, u8),
     Header(u16, u16),
-    Entered(u8, u16, u64, u64),
-    Fallback(u8, u16, u64, u8, u64),
+    Entered(u8, u16, u64, u64, u8),
+    Fallback(u8, u16, u64, u8, u64, u8),
     Rollback,
 }
 
@@ -57,27 +57,27 @@ fn task_of(code: u8, length: u16, cca: u8) -> Task
     }
 }
 
-fn stop_of(code: u8, length: u16, time: u64) -> StopResult
-    ensures { λ r. ⌜ r ≡ stopOf length time code ⌝ }
+fn stop_of(code: u8, length: u16, time: u64, quality: u8) -> StopResult
+    ensures { λ r. ⌜ r ≡ stopOf length time quality code ⌝ }
 {
     match code {
         0 => StopResult::FrameStarted,
         1 => StopResult::Failed,
-        2 => StopResult::RxWindowEnded(RxResult::Frame(length, time)),
+        2 => StopResult::RxWindowEnded(RxResult::Frame(length, time, quality)),
         3 => StopResult::RxWindowEnded(RxResult::RxWindowEnded),
-        _ => StopResult::RxWindowEnded(RxResult::CrcError(time)),
+        _ => StopResult::RxWindowEnded(RxResult::CrcError(time, quality)),
     }
 }
 
-fn result_of(code: u8, length: u16, time: u64) -> TaskResult
-    ensures { λ r. ⌜ r ≡ resultOf length time code ⌝ }
+fn result_of(code: u8, length: u16, time: u64, quality: u8) -> TaskResult
+    ensures { λ r. ⌜ r ≡ resultOf length time quality code ⌝ }
 {
     match code {
         0 => TaskResult::Off,
         1 => TaskResult::Sent(time),
-        2 => TaskResult::Rx(RxResult::Frame(length, time)),
+        2 => TaskResult::Rx(RxResult::Frame(length, time, quality)),
         3 => TaskResult::Rx(RxResult::RxWindowEnded),
-        _ => TaskResult::Rx(RxResult::CrcError(time)),
+        _ => TaskResult::Rx(RxResult::CrcError(time, quality)),
     }
 }
 
@@ -103,10 +103,10 @@ pub fn is_known(x: ExportedCall) -> bool
         ExportedCall::None => true,
         ExportedCall::FrameStart => true,
         ExportedCall::OutboundSeen(start, time, cca) => util::both(start < 2, cca < 2),
-        ExportedCall::Stopped(outcome, length, time) => outcome < 5,
+        ExportedCall::Stopped(outcome, length, time, quality) => outcome < 5,
         ExportedCall::Header(arrived, length) => true,
-        ExportedCall::Entered(result, length, time, entry) => result < 5,
-        ExportedCall::Fallback(result, length, time, cause, cause_time) => util::both(
+        ExportedCall::Entered(result, length, time, entry, quality) => result < 5,
+        ExportedCall::Fallback(result, length, time, cause, cause_time, quality) => util::both(
             result < 5,
             cause < 3,
         ),
@@ -132,18 +132,19 @@ pub fn call_of(x: ExportedCall) -> Call
             timestamp_of(start, time),
             cca == 1,
         ),
-        ExportedCall::Stopped(outcome, length, time) => Call::Stopped(stop_of(
+        ExportedCall::Stopped(outcome, length, time, quality) => Call::Stopped(stop_of(
             outcome,
             length,
             time,
+            quality,
         )),
         ExportedCall::Header(arrived, length) => Call::Header(arrived, length),
-        ExportedCall::Entered(result, length, time, entry) => Call::Entered(
-            result_of(result, length, time),
+        ExportedCall::Entered(result, length, time, entry, quality) => Call::Entered(
+            result_of(result, length, time, quality),
             entry,
         ),
-        ExportedCall::Fallback(result, length, time, cause, cause_time) => Call::Fallback(
-            result_of(result, length, time),
+        ExportedCall::Fallback(result, length, time, cause, cause_time, quality) => Call::Fallback(
+            result_of(result, length, time, quality),
             cause_of(cause, cause_time),
         ),
         ExportedCall::Rollback => Call::Rollback,

@@ -22,15 +22,15 @@ use Rattle.engine.specs.Book.{isIdle}
 use Rattle.engine.proofs.Actions.{accepted-acts}
 use Rattle.engine.specs.AckTurns.{AckTurns, EveryAckTurnIsDue}
 use Rattle.engine.proofs.AckTurns.{every-ack-turn-is-due}
-use Rattle.engine.specs.Reasons.{EveryAnswerHasItsReason}
+use Rattle.engine.specs.Reasons.{EveryAnswerHasItsReason, EveryQualityIsTold}
 use Rattle.driver.specs.Promises.{Stepped, Started}
 use Rattle.engine.proofs.History.{history}
 use Rattle.engine.proofs.Refusals.{in-order, refused-unchanged}
-use Rattle.engine.proofs.Reasons.{every-answer-has-its-reason}
+use Rattle.engine.proofs.Reasons.{every-answer-has-its-reason, every-quality-is-told}
 
 pub stepped : (s : State) (pool : List ℕ) (c : Call) (r : Outcome) (written : List ℕ) → r ≡ stepOf s pool c → written ≡ stepPool s pool c
     → Stepped s pool c r written
-unfolding InOrder RefusedUnchanged EveryAnswerHasItsReason AcceptedActs EveryAckTurnIsDue
+unfolding InOrder RefusedUnchanged EveryAnswerHasItsReason EveryQualityIsTold AcceptedActs EveryAckTurnIsDue
 stepped s pool c r written e w =
     record {
       returns = e;
@@ -42,6 +42,7 @@ stepped s pool c r written e w =
           (ap (λ (o : Outcome). o .state) e ∙ kept .state, ap (λ (o : Outcome). o .reply) e ∙ kept .reply, w ∙ kept .pool-bytes);
       acts = λ z. rw e (accepted-acts s pool c (rw e at z));
       reasons = rw e (every-answer-has-its-reason s pool c);
+      qualities = rw e (every-quality-is-told s pool c);
       ack-turns = rw (e, w) (every-ack-turn-is-due s pool c);
     }
 

@@ -1,4 +1,5 @@
--- What `step` and `start` promise: the three demands together, and when a received frame is acknowledged.
+-- What `step` and `start` promise: the three demands together, when a received frame is acknowledged, and which link quality an
+-- answer carries.
 -- Assumes nothing.
 use Prim.Native.Nat.{ℕ}
 use mathlib.Core.Path.{_≡_}
@@ -12,7 +13,7 @@ use Rattle.tasks.specs.declared.State.{State}
 use Rattle.engine.specs.declared.Outcome.{Outcome}
 use Rattle.engine.specs.Step.{stepOf, stepPool, startOf, startPool}
 use Rattle.engine.specs.Refusals.{refusalOf, noReply}
-use Rattle.engine.specs.Reasons.{Reasons}
+use Rattle.engine.specs.Reasons.{Reasons, AllCarryTold}
 use Rattle.engine.specs.Actions.{ActsRight}
 use Rattle.engine.specs.AckTurns.{AckTurns}
 use Rattle.engine.specs.Lists.{AlwaysSound}
@@ -31,6 +32,8 @@ pub record Stepped (s : State) (pool : List ℕ) (c : Call) (r : Outcome) (writt
   pub acts : r .refusal ≡ 0 → ActsRight c r
   -- each answer has its reason
   pub reasons : Reasons s pool c (r .reply .answers)
+  -- a receive answer carries the link quality that the radio tells in this call, every other answer none: E6
+  pub qualities : AllCarryTold c (r .reply .answers)
   -- a received frame is acknowledged exactly where it is due: E4, a broadcast never
   pub ack-turns : AckTurns s pool c r written
 

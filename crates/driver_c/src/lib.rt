@@ -102,17 +102,18 @@ pub extern "C" fn widosha_stopped(
     outcome: u8,
     length: u16,
     time: u64,
+    quality: u8,
     state: &mut [u8],
     reply: &mut [u8],
     pool: &mut [u8],
 ) -> u8
-    ensures { λ r. ⌜ Called (now (state .entry)) (now (reply .entry)) (now (pool .entry)) (ExportedCall.Stopped outcome length time) r (now (state .exit)) (now (reply .exit)) (now (pool .exit)) ⌝ }
+    ensures { λ r. ⌜ Called (now (state .entry)) (now (reply .entry)) (now (pool .entry)) (ExportedCall.Stopped outcome length time quality) r (now (state .exit)) (now (reply .exit)) (now (pool .exit)) ⌝ }
 {
     exported::call(
         state,
         reply,
         pool,
-        ExportedCall::Stopped(outcome, length, time),
+        ExportedCall::Stopped(outcome, length, time, quality),
     )
 }
 
@@ -135,17 +136,18 @@ pub extern "C" fn widosha_entered(
     length: u16,
     time: u64,
     entry: u64,
+    quality: u8,
     state: &mut [u8],
     reply: &mut [u8],
     pool: &mut [u8],
 ) -> u8
-    ensures { λ r. ⌜ Called (now (state .entry)) (now (reply .entry)) (now (pool .entry)) (ExportedCall.Entered result length time entry) r (now (state .exit)) (now (reply .exit)) (now (pool .exit)) ⌝ }
+    ensures { λ r. ⌜ Called (now (state .entry)) (now (reply .entry)) (now (pool .entry)) (ExportedCall.Entered result length time entry quality) r (now (state .exit)) (now (reply .exit)) (now (pool .exit)) ⌝ }
 {
     exported::call(
         state,
         reply,
         pool,
-        ExportedCall::Entered(result, length, time, entry),
+        ExportedCall::Entered(result, length, time, entry, quality),
     )
 }
 
@@ -156,17 +158,18 @@ pub extern "C" fn widosha_fallback(
     time: u64,
     cause: u8,
     cause_time: u64,
+    quality: u8,
     state: &mut [u8],
     reply: &mut [u8],
     pool: &mut [u8],
 ) -> u8
-    ensures { λ r. ⌜ Called (now (state .entry)) (now (reply .entry)) (now (pool .entry)) (ExportedCall.Fallback result length time cause «cause_time») r (now (state .exit)) (now (reply .exit)) (now (pool .exit)) ⌝ }
+    ensures { λ r. ⌜ Called (now (state .entry)) (now (reply .entry)) (now (pool .entry)) (ExportedCall.Fallback result length time cause «cause_time» quality) r (now (state .exit)) (now (reply .exit)) (now (pool .exit)) ⌝ }
 {
     exported::call(
         state,
         reply,
         pool,
-        ExportedCall::Fallback(result, length, time, cause, cause_time),
+        ExportedCall::Fallback(result, length, time, cause, cause_time, quality),
     )
 }
 

@@ -43,8 +43,12 @@ fn request(line: &[u8]) -> Request {
 fn rx_result(line: &[u8]) -> RxResult {
     let code = util::byte_at(line, 61);
     match code {
-        b'f' => RxResult::Frame(columns::half(line, 11), columns::double(line, 21)),
-        b'c' => RxResult::CrcError(columns::double(line, 21)),
+        b'f' => RxResult::Frame(
+            columns::half(line, 11),
+            columns::double(line, 21),
+            columns::byte(line, 18),
+        ),
+        b'c' => RxResult::CrcError(columns::double(line, 21), columns::byte(line, 18)),
         _ => RxResult::RxWindowEnded,
     }
 }

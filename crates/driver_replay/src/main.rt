@@ -1,4 +1,4 @@
-// Replays the records of standard input, 64 bytes each, over the driver service, and prints a line of 116 bytes for each call
+// Replays the records of standard input, 64 bytes each, over the driver service, and prints a line of 122 bytes for each call
 // and each dump. docs/REPLAY-FORMAT.md has the columns.
 mod calls;
 mod columns;
@@ -140,7 +140,7 @@ fn put_sixteen(out: &mut [u8], column: usize, pool: &[u8], at: usize) {
 
 // Prints 48 bytes of the pool from a place on.
 fn dump(pool: &[u8], line: &[u8]) {
-    let mut out = [b' '; 116];
+    let mut out = [b' '; 122];
     let place = columns::word(line, 2);
     let at = place as usize;
     util::put(&mut out, 0, b'd');
@@ -148,13 +148,13 @@ fn dump(pool: &[u8], line: &[u8]) {
     put_sixteen(&mut out, 11, pool, at);
     put_sixteen(&mut out, 43, pool, std::num::wrapping_add_usize(at, 16));
     put_sixteen(&mut out, 75, pool, std::num::wrapping_add_usize(at, 32));
-    util::put(&mut out, 115, b'\n');
+    util::put(&mut out, 121, b'\n');
     io::write_all(1, &out);
 }
 
 // Prints the three bytes of the ACK buffer's frame.
 fn dump_ack(pool: &[u8], set: Settings) {
-    let mut out = [b' '; 116];
+    let mut out = [b' '; 122];
     let place = radio_frame::frame_start(set, set.ack_buffer);
     let at = place as usize;
     util::put(&mut out, 0, b'a');
@@ -170,7 +170,7 @@ fn dump_ack(pool: &[u8], set: Settings) {
         15,
         util::byte_at(pool, std::num::wrapping_add_usize(at, 2)),
     );
-    util::put(&mut out, 115, b'\n');
+    util::put(&mut out, 121, b'\n');
     io::write_all(1, &out);
 }
 

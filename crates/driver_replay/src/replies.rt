@@ -1,4 +1,4 @@
-// A reply as a line of 116 bytes. docs/REPLAY-FORMAT.md has the columns.
+// A reply as a line of 122 bytes. docs/REPLAY-FORMAT.md has the columns.
 use crate::columns;
 use phy::Ifs;
 use tasks::Action;
@@ -31,6 +31,7 @@ struct ResponseColumns {
     length: u16,
     start: u8,
     time: u64,
+    quality: u8,
 }
 
 fn start_code(t: Timestamp) -> u8 {
@@ -143,52 +144,59 @@ fn put_action(line: &mut [u8], a: ActionColumns) {
     columns::put_flag(line, 38, a.rollback);
 }
 
-fn said(code: u8, length: u16, start: u8, time: u64) -> ResponseColumns {
+fn said(code: u8, length: u16, start: u8, time: u64, quality: u8) -> ResponseColumns {
     ResponseColumns {
         code: code,
         length: length,
         start: start,
         time: time,
+        quality: quality,
     }
 }
 
 fn received(x: RxResult) -> ResponseColumns {
     match x {
-        RxResult::Frame(n, t) => said(b'f', n, b'-', t),
-        RxResult::RxWindowEnded => said(b'w', 0, b'-', 0),
-        RxResult::CrcError(t) => said(b'c', 0, b'-', t),
+        RxResult::Frame(n, t, q) => said(b'f', n, b'-', t, q),
+        RxResult::RxWindowEnded => said(b'w', 0, b'-', 0, 0),
+        RxResult::CrcError(t, q) => said(b'c', 0, b'-', t, q),
     }
 }
 
 fn failed(c: Cause) -> ResponseColumns {
     match c {
-        Cause::Scheduling(t) => said(b'e', 0, start_code(t), start_time(t)),
-        Cause::Task => said(b't', 0, b'-', 0),
+        Cause::Scheduling(t) => said(b'e', 0, start_code(t), start_time(t), 0),
+        Cause::Task => said(b't', 0, b'-', 0, 0),
     }
 }
 
 fn response_columns(r: Response) -> ResponseColumns {
     match r {
-        Response::Sent(t) => said(b's', 0, b'-', t),
-        Response::Nack(t) => said(b'n', 0, b'-', t),
+        Response::Sent(t) => said(b's', 0, b'-', t, 0),
+        Response::Nack(t) => said(b'n', 0, b'-', t, 0),
         Response::Error(c) => failed(c),
         Response::Received(x) => received(x),
     }
 }
 
-// What an answer says, from column 40 on, or from 78 on for the second one.
-fn put_response(line: &mut [u8], second: bool, token: u32, buffer: u8, r: ResponseColumns) {
-    let at: usize = if second { 78 } else { 40 };
-    util::put(line, at, r.code);
+// Whose answer it is, and the buffer that it returns.
+fn put_owner(line: &mut [u8], at: usize, token: u32, buffer: u8) {
     columns::put_word(line, std::num::wrapping_add_usize(at, 2), token);
     columns::put_byte(line, std::num::wrapping_add_usize(at, 11), buffer);
+}
+
+// An answer, from column 40 on, or from 81 on for the second one.
+fn put_response(line: &mut [u8], second: bool, token: u32, buffer: u8, r: ResponseColumns) {
+    let at: usize = if second { 81 } else { 40 };
+    util::put(line, at, r.code);
+    put_owner(line, at, token, buffer);
     columns::put_half(line, std::num::wrapping_add_usize(at, 14), r.length);
     util::put(line, std::num::wrapping_add_usize(at, 19), r.start);
     columns::put_double(line, std::num::wrapping_add_usize(at, 21), r.time);
+    columns::put_byte(line, std::num::wrapping_add_usize(at, 38), r.quality);
 }
 
 fn put_nothing(line: &mut [u8], second: bool) {
-    put_response(line, second, 0, 0, said(b'-', 0, b'-', 0));
+    put_response(line, second, 0, 0, said(b'-', 0, b'-', 0, 0));
 }
 
 fn put_answer(line: &mut [u8], second: bool, a: Answer) {
@@ -215,13 +223,13 @@ fn put_answers(line: &mut [u8], answers: Answers) {
 
 // Prints the kind of a record, the refusal and the reply.
 pub fn print(kind: u8, refusal: u8, reply: Reply) {
-    let mut line = [b' '; 116];
+    let mut line = [b' '; 122];
     let action = reply.action;
     let answers = reply.answers;
     util::put(&mut line, 0, kind);
     columns::put_byte(&mut line, 2, refusal);
     put_action(&mut line, action_columns(action));
     put_answers(&mut line, answers);
-    util::put(&mut line, 115, b'\n');
+    util::put(&mut line, 121, b'\n');
     io::write_all(1, &line);
 }

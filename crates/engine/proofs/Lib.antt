@@ -6,6 +6,7 @@ pub mod Kept
 pub mod Table
 pub mod Refusals
 pub mod Reasons
+pub mod Qualities
 pub mod Actions
 pub mod AckTurns
 pub mod Sound

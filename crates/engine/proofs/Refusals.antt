@@ -97,9 +97,9 @@ module _ (set : Settings) (pool : List ℕ) where
   leave-refusal Left.SendingAck (TaskResult.Rx r) = refl
   leave-refusal (Left.ReceivingAck a) TaskResult.Off = refl
   leave-refusal (Left.ReceivingAck a) (TaskResult.Sent t) = refl
-  leave-refusal (Left.ReceivingAck a) (TaskResult.Rx (RxResult.Frame n t)) = refl
+  leave-refusal (Left.ReceivingAck a) (TaskResult.Rx (RxResult.Frame n t quality)) = refl
   leave-refusal (Left.ReceivingAck a) (TaskResult.Rx RxResult.RxWindowEnded) = refl
-  leave-refusal (Left.ReceivingAck a) (TaskResult.Rx (RxResult.CrcError t)) = refl
+  leave-refusal (Left.ReceivingAck a) (TaskResult.Rx (RxResult.CrcError t quality)) = refl
 
   none-refusal : (a : Asked) → noneOf (stateAt set (Wait.Asking a)) a .refusal ≡ cond (not (noneFits a)) 5 0
   unfolding noneOf noneFits

@@ -104,9 +104,9 @@ tells-one Call.Rollback r r′ p p′ = absurd p
 pub same-ack : (set set′ : Settings) (pool : List ℕ) (b k : ℕ) (r : RxResult) → set .headroom ≡ set′ .headroom
     → isAck set pool b k r ≡ isAck set′ pool b k r
 unfolding frameStart
-same-ack set set′ pool b k (RxResult.Frame len t) h = rw h
+same-ack set set′ pool b k (RxResult.Frame len t quality) h = rw h
 same-ack set set′ pool b k RxResult.RxWindowEnded h = refl
-same-ack set set′ pool b k (RxResult.CrcError t) h = refl
+same-ack set set′ pool b k (RxResult.CrcError t quality) h = refl
 
 module _ (set : Settings) (pool : List ℕ) (c : Call) (o : Standing) (e : Entry) (A : AgreesOne o e) where
   abbrev answered : Response → Settled

@@ -269,7 +269,7 @@ module _ (set : Settings) (pool : List ℕ) where
             (answersOf (previousTaskOf set a .owed)))
         go Asked.Idle f = enters Left.Off Owed.None N tt (f .0) (f .1) refl (accepts _ (q .task)) (its-buffer (q .task)) (request-acts Asked.Idle Left.Off) refl
         go (Asked.AfterWindow p) f =
-            enters Left.Off (previousTaskOf set (Asked.AfterWindow p) .owed) N (listening-ended p refl) (f .0) (f .1)
+            enters Left.Off (previousTaskOf set (Asked.AfterWindow p) .owed) N (listening-ended p q refl refl) (f .0) (f .1)
             (paid refl refl refl (λ set′ h e A. received-right set′ pool _ _ e A RxResult.RxWindowEnded refl), refl)
             (accepts _ (q .task)) (its-buffer (q .task)) (request-acts (Asked.AfterWindow p) Left.Off) refl
         go (Asked.AfterAckWindow p t) f =
@@ -375,11 +375,11 @@ module _ (set : Settings) (pool : List ℕ) where
   leave-pays c Left.SendingAck (TaskResult.Rx r) M tells h = absurd (omega arith)
   leave-pays c (Left.ReceivingAck a) TaskResult.Off M tells h = absurd (omega arith)
   leave-pays c (Left.ReceivingAck a) (TaskResult.Sent t) M tells h = absurd (omega arith)
-  leave-pays c (Left.ReceivingAck a) (TaskResult.Rx (RxResult.Frame n t)) M tells h =
-      (paid refl refl (ack-transmit a n) (heard-right c a (RxResult.Frame n t) _ tells refl), refl)
+  leave-pays c (Left.ReceivingAck a) (TaskResult.Rx (RxResult.Frame n t k)) M tells h =
+      (paid refl refl (ack-transmit a n) (heard-right c a (RxResult.Frame n t k) _ tells refl), refl)
   leave-pays c (Left.ReceivingAck a) (TaskResult.Rx RxResult.RxWindowEnded) M tells h = absurd (omega arith)
-  leave-pays c (Left.ReceivingAck a) (TaskResult.Rx (RxResult.CrcError t)) M tells h =
-      (paid refl refl refl (heard-right c a (RxResult.CrcError t) _ tells refl), refl)
+  leave-pays c (Left.ReceivingAck a) (TaskResult.Rx (RxResult.CrcError t k)) M tells h =
+      (paid refl refl refl (heard-right c a (RxResult.CrcError t k) _ tells refl), refl)
 
   -- what is left answers for its reason
   receiving-reasons : (s : State) (c : Call) (q : RxTask) (r : TaskResult)
@@ -406,15 +406,15 @@ module _ (set : Settings) (pool : List ℕ) where
   leave-reasons w c Left.SendingAck n (TaskResult.Rx r) e h = tt
   leave-reasons w c (Left.ReceivingAck a) n TaskResult.Off e h = tt
   leave-reasons w c (Left.ReceivingAck a) n (TaskResult.Sent t) e h = tt
-  leave-reasons w c (Left.ReceivingAck a) n (TaskResult.Rx (RxResult.Frame len t)) e h =
-      heard (isAck set pool (set .«spare_buffer») (a .number) (RxResult.Frame len t)) refl
+  leave-reasons w c (Left.ReceivingAck a) n (TaskResult.Rx (RxResult.Frame len t k)) e h =
+      heard (isAck set pool (set .«spare_buffer») (a .number) (RxResult.Frame len t k)) refl
     where
-      heard : (b : Bool) → isAck set pool (set .«spare_buffer») (a .number) (RxResult.Frame len t) ≡ b
-          → Reason (stateAt set w) pool c (toTx (a .task) (cond (isAck set pool (set .«spare_buffer») (a .number) (RxResult.Frame len t)) (Response.Sent (a .time)) (Response.Nack (a .time))))
-      heard true p = rw p (acknowledged a n (RxResult.Frame len t) e h p)
-      heard false p = rw p (unacknowledged a n (RxResult.Frame len t) e h p)
+      heard : (b : Bool) → isAck set pool (set .«spare_buffer») (a .number) (RxResult.Frame len t k) ≡ b
+          → Reason (stateAt set w) pool c (toTx (a .task) (cond (isAck set pool (set .«spare_buffer») (a .number) (RxResult.Frame len t k)) (Response.Sent (a .time)) (Response.Nack (a .time))))
+      heard true p = rw p (acknowledged a n (RxResult.Frame len t k) e h p)
+      heard false p = rw p (unacknowledged a n (RxResult.Frame len t k) e h p)
   leave-reasons w c (Left.ReceivingAck a) n (TaskResult.Rx RxResult.RxWindowEnded) e h = tt
-  leave-reasons w c (Left.ReceivingAck a) n (TaskResult.Rx (RxResult.CrcError t)) e h = unacknowledged a n (RxResult.CrcError t) e h refl
+  leave-reasons w c (Left.ReceivingAck a) n (TaskResult.Rx (RxResult.CrcError t k)) e h = unacknowledged a n (RxResult.CrcError t k) e h refl
 
   then-reasons : (s : State) (c : Call) (x : Owed) (q : TxTask) (cause : Cause) → Reasons s pool c (answersOf x)
       → Reason s pool c (toTx q (Response.Error cause)) → Reasons s pool c (thenError q cause x)

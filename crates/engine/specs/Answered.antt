@@ -33,9 +33,9 @@ Tells Call.Rollback r = ⊥
 -- "the received frame is 3 bytes, (control & EFFF) = 0002 hexadecimal, and the third byte is the number noted at acceptance":
 -- of a receive result, with the frame in a buffer; a damaged frame is none
 abbrev pub isAck : Settings → List ℕ → ℕ → ℕ → RxResult → Bool
-isAck set pool buffer number (RxResult.Frame len t) = acknowledges (frameHead set pool buffer) len number
+isAck set pool buffer number (RxResult.Frame len t quality) = acknowledges (frameHead set pool buffer) len number
 isAck set pool buffer number RxResult.RxWindowEnded = false
-isAck set pool buffer number (RxResult.CrcError t) = false
+isAck set pool buffer number (RxResult.CrcError t quality) = false
 
 -- In the very call that answers the request, whose frame was told sent at a time, the radio tells what it received after "frame
 -- started" in the request's own ACK wait, in the buffer that was named for it; and whether that is the ACK with the number is `ack`.

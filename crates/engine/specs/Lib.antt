@@ -4,6 +4,7 @@ pub mod Book
 pub mod Answered
 pub mod BookClaims
 pub mod Reasons
+pub mod Qualities
 pub mod Agreement
 pub mod Actions
 pub mod AckTurns

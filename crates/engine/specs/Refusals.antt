@@ -58,9 +58,9 @@ resultFits Left.SendingAck (TaskResult.Sent t) = true
 resultFits Left.SendingAck (TaskResult.Rx r) = false
 resultFits (Left.ReceivingAck a) TaskResult.Off = false
 resultFits (Left.ReceivingAck a) (TaskResult.Sent t) = false
-resultFits (Left.ReceivingAck a) (TaskResult.Rx (RxResult.Frame n t)) = true
+resultFits (Left.ReceivingAck a) (TaskResult.Rx (RxResult.Frame n t quality)) = true
 resultFits (Left.ReceivingAck a) (TaskResult.Rx RxResult.RxWindowEnded) = false
-resultFits (Left.ReceivingAck a) (TaskResult.Rx (RxResult.CrcError t)) = true
+resultFits (Left.ReceivingAck a) (TaskResult.Rx (RxResult.CrcError t quality)) = true
 
 -- Entered: the re-arm and the ACK turn leave a reception, the ACK wait leaves sending
 unfoldable pub enteredFits : Transition → TaskResult → Bool

@@ -1,16 +1,18 @@
 -- From what reading, the engine's call and writing ensure to what the call ensures; over plain values.
 -- Assumes nothing.
 use Prim.Native.Nat.{ℕ}
-use mathlib.Core.Path.{_≡_, refl, _∙_}
+use mathlib.Core.Path.{_≡_, refl, sym, _∙_}
 use mathlib.Core.Bool.{Bool, true, false, cond}
 use mathlib.Core.List.{List}
 use lib.Dec.{eqb}
 use lib.ListN.{length}
-use borrow.Author.Tests.{eqb-false, ne-eqb}
+use native.Mathlib.Omega.{arith}
+use borrow.Author.Tests.{eq-eqb, eqb-false, ne-eqb}
 use Rattle.tasks.specs.declared.State.{State}
 use Rattle.engine.specs.declared.Outcome.{Outcome}
 use Rattle.state_bytes.specs.declared.Decoded.{Decoded}
 use Rattle.state_bytes.specs.Layout.{stateAt}
+use Rattle.reply_bytes.specs.Reply.{writtenReply}
 use Rattle.call_codes.specs.declared.ExportedCall.{ExportedCall}
 use Rattle.call_codes.specs.declared.StartNumbers.{StartNumbers}
 use Rattle.slices.specs.Slices.{slicesFit, formOk, ifAccepted}
@@ -23,6 +25,7 @@ use Rattle.byte_calls.specs.Lists.{AlwaysByteSound}
 use Rattle.byte_calls.specs.Start.{StartCalled}
 use Rattle.byte_calls.proofs.Order.{start-order}
 use Rattle.byte_calls.proofs.One.{call-one, start-one}
+use Rattle.byte_calls.proofs.Qualities.{made-carries}
 
 kept : (r : ℕ) (new old : List ℕ) → (r ≡ 0 → ⊥) → ifAccepted r new old ≡ old
 kept r new old h = simp (ne-eqb r 0 h)
@@ -36,6 +39,11 @@ pool-settled po r new h = go (eqb r 0) refl
     go false e = rw e (h (eqb-false r 0 e))
 
 module _ (st re po : List ℕ) (x : ExportedCall) where
+  -- an accepted call's reply is the engine's
+  written : callResult st re po x ≡ 0 → callReply st re po x ≡ writtenReply (madeOutcome (stateAt st) po x .reply)
+  unfolding callReply
+  written z = simp (eq-eqb _ 0 z)
+
   called : (o : Outcome) → formOk st (length re) ≡ true → o ≡ madeOutcome (stateAt st) po x → (r : ℕ) (st′ re′ po′ : List ℕ)
       → po′ ≡ madePool (stateAt st) po x → Finished o st re r st′ re′ → Called st re po x r st′ re′ po′
   unfolding callResult callState callReply callPool exportedRefusal unknownOf
@@ -54,6 +62,7 @@ module _ (st re po : List ℕ) (x : ExportedCall) where
         refuses = W;
         refuses-one = call-one st re po x W;
         unchanged = λ h. (T ∙ kept (callResult st re po x) _ st (rw R at h), Y ∙ kept (callResult st re po x) _ re (rw R at h), Q ∙ kept (callResult st re po x) _ po (rw R at h));
+        qualities = λ z. rw (Y ∙ written (sym R ∙ z)) (made-carries x (stateAt st) po);
       }
 
   pub done : (s : State) → readOf st (length re) ≡ Decoded.Valid s → (o : Outcome) (r : ℕ) (st′ re′ po′ : List ℕ) → o ≡ madeOutcome s po x → po′ ≡ madePool s po x
@@ -74,6 +83,7 @@ module _ (st re po : List ℕ) (x : ExportedCall) where
         refuses = simp bad;
         refuses-one = call-one st re po x (simp bad);
         unchanged = λ h. (refl, refl, refl);
+        qualities = λ z. absurd (omega arith);
       }
 
 -- ---- A start

@@ -1,3 +1,4 @@
 pub mod Assembled
 pub mod ReadBack
 pub mod Spacing
+pub mod Qualities

@@ -25,9 +25,9 @@ use Rattle.reply_bytes.specs.declared.AnswerFields.{AnswerFields}
 use Rattle.reply_bytes.specs.declared.CameTo.{CameTo}
 use Rattle.reply_bytes.specs.Reply.{actionFields, noAnswer, schedulingFields, causeFields, receivedFields, responseFields, answerFields, firstFields, secondFields, writtenFields, writtenReply, responseAt, answerAt, answersAt, ResponseFits, AnswerFits, AnswersFit, spacingBits, startBit, startTime, taskFlags, directionCode, stopFields, bit, spacingAt, startAt, actionFrom, actionAt, replyAt, TimestampFits, ActionFits, ReplyReadsBack}
 
--- a response from its code, length and time
+-- a response from its code, length, time and link quality
 abbrev read : CameTo → Response
-read x = responseAt (x .code) (x .length) (x .time)
+read x = responseAt (x .code) (x .length) (x .time) (x .quality)
 
 response-back : (x : Response) → ResponseFits x → read (responseFields x) ≡ x
 unfolding responseAt responseFields causeFields schedulingFields receivedFields
@@ -36,10 +36,10 @@ response-back (Response.Nack t) F = refl
 response-back (Response.Error (Cause.Scheduling Timestamp.BestEffort)) F = refl
 response-back (Response.Error (Cause.Scheduling (Timestamp.Scheduled t))) F = refl
 response-back (Response.Error Cause.Task) F = refl
-response-back (Response.Received (RxResult.Frame n t)) F =
-    let e : n % 256 ≡ n = omega (arith, F .0) in ap (λ (k : ℕ). Response.Received (RxResult.Frame k t)) e
+response-back (Response.Received (RxResult.Frame n t q)) F =
+    let e : n % 256 ≡ n = omega (arith, F .0) in ap (λ (k : ℕ). Response.Received (RxResult.Frame k t q)) e
 response-back (Response.Received RxResult.RxWindowEnded) F = refl
-response-back (Response.Received (RxResult.CrcError t)) F = refl
+response-back (Response.Received (RxResult.CrcError t q)) F = refl
 
 -- the time of a response fits
 time-fits : (x : Response) → ResponseFits x → responseFields x .time < 2 ^ 64
@@ -49,9 +49,9 @@ time-fits (Response.Nack t) F = F
 time-fits (Response.Error (Cause.Scheduling Timestamp.BestEffort)) F = omega arith
 time-fits (Response.Error (Cause.Scheduling (Timestamp.Scheduled t))) F = F
 time-fits (Response.Error Cause.Task) F = omega arith
-time-fits (Response.Received (RxResult.Frame n t)) F = F .1
+time-fits (Response.Received (RxResult.Frame n t q)) F = F .1
 time-fits (Response.Received RxResult.RxWindowEnded) F = omega arith
-time-fits (Response.Received (RxResult.CrcError t)) F = F
+time-fits (Response.Received (RxResult.CrcError t q)) F = F
 
 -- an answer from its fields
 abbrev fromFields : AnswerFields → Answer
@@ -65,14 +65,14 @@ module _ (a : ActionFields) (x y : AnswerFields) where
   first-back : x .token < 2 ^ 32 → x .response .time < 2 ^ 64 → answerAt (writtenFields a x y) 12 ≡ fromFields x
   unfolding writtenFields numberAt
   first-back t u =
-      ap (λ (k : ℕ). record { token = k; buffer = x .buffer; response = responseAt (x .response .code) (x .response .length) (numberAt (writtenFields a x y) 19 8) }) (read-back 4 (x .token) t)
-      ∙ ap (λ (k : ℕ). record { token = x .token; buffer = x .buffer; response = responseAt (x .response .code) (x .response .length) k }) (read-back 8 (x .response .time) u)
+      ap (λ (k : ℕ). record { token = k; buffer = x .buffer; response = responseAt (x .response .code) (x .response .length) (numberAt (writtenFields a x y) 19 8) (x .response .quality) }) (read-back 4 (x .token) t)
+      ∙ ap (λ (k : ℕ). record { token = x .token; buffer = x .buffer; response = responseAt (x .response .code) (x .response .length) k (x .response .quality) }) (read-back 8 (x .response .time) u)
 
   second-back : y .token < 2 ^ 32 → y .response .time < 2 ^ 64 → answerAt (writtenFields a x y) 30 ≡ fromFields y
   unfolding writtenFields numberAt
   second-back t u =
-      ap (λ (k : ℕ). record { token = k; buffer = y .buffer; response = responseAt (y .response .code) (y .response .length) (numberAt (writtenFields a x y) 37 8) }) (read-back 4 (y .token) t)
-      ∙ ap (λ (k : ℕ). record { token = y .token; buffer = y .buffer; response = responseAt (y .response .code) (y .response .length) k }) (read-back 8 (y .response .time) u)
+      ap (λ (k : ℕ). record { token = k; buffer = y .buffer; response = responseAt (y .response .code) (y .response .length) (numberAt (writtenFields a x y) 37 8) (y .response .quality) }) (read-back 4 (y .token) t)
+      ∙ ap (λ (k : ℕ). record { token = y .token; buffer = y .buffer; response = responseAt (y .response .code) (y .response .length) k (y .response .quality) }) (read-back 8 (y .response .time) u)
 
 -- an answer's code is not 0
 code-not-0 : (A : Type 0) (x y : A) (r : Response) → cond (eqb (responseFields r .code) 0) x y ≡ y
@@ -82,9 +82,9 @@ code-not-0 A x y (Response.Nack t) = refl
 code-not-0 A x y (Response.Error (Cause.Scheduling Timestamp.BestEffort)) = refl
 code-not-0 A x y (Response.Error (Cause.Scheduling (Timestamp.Scheduled t))) = refl
 code-not-0 A x y (Response.Error Cause.Task) = refl
-code-not-0 A x y (Response.Received (RxResult.Frame n t)) = refl
+code-not-0 A x y (Response.Received (RxResult.Frame n t q)) = refl
 code-not-0 A x y (Response.Received RxResult.RxWindowEnded) = refl
-code-not-0 A x y (Response.Received (RxResult.CrcError t)) = refl
+code-not-0 A x y (Response.Received (RxResult.CrcError t q)) = refl
 
 module _ (a : ActionFields) where
   one-back : (x : Answer) → AnswerFits x → answersAt (writtenFields a (answerFields x) noAnswer) ≡ Answers.One x

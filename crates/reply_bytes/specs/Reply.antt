@@ -20,6 +20,7 @@ use Rattle.tasks.specs.declared.NextTaskIfs.{NextTaskIfs}
 use Rattle.tasks.specs.declared.StopListening.{StopListening}
 use Rattle.tasks.specs.declared.TaskDirection.{TaskDirection}
 use Rattle.tasks.specs.declared.Timestamp.{Timestamp}
+use Rattle.tasks.specs.Quality.{Quality, noQuality, linkQuality, responseQuality}
 use Rattle.reply_bytes.specs.declared.ActionFields.{ActionFields}
 use Rattle.reply_bytes.specs.declared.CameTo.{CameTo}
 use Rattle.reply_bytes.specs.declared.AnswerFields.{AnswerFields}
@@ -77,32 +78,32 @@ actionFields (Action.Off rollback) = actionOf 11 0 0 (cond rollback 2 0) 0
 
 -- ---- The answers
 
--- code, length, time
-abbrev pub cameTo : ℕ → ℕ → ℕ → CameTo
-cameTo code length time = record { code = code; length = length; time = time }
+-- code, length, time, link quality
+abbrev pub cameTo : ℕ → ℕ → ℕ → ℕ → CameTo
+cameTo code length time quality = record { code = code; length = length; time = time; quality = quality }
 
 unfoldable pub schedulingFields : Timestamp → CameTo
-schedulingFields Timestamp.BestEffort = cameTo 3 0 0
-schedulingFields (Timestamp.Scheduled t) = cameTo 4 0 t
+schedulingFields Timestamp.BestEffort = cameTo 3 0 0 0
+schedulingFields (Timestamp.Scheduled t) = cameTo 4 0 t 0
 
 unfoldable pub causeFields : Cause → CameTo
 causeFields (Cause.Scheduling start) = schedulingFields start
-causeFields Cause.Task = cameTo 5 0 0
+causeFields Cause.Task = cameTo 5 0 0 0
 
 unfoldable pub receivedFields : RxResult → CameTo
-receivedFields (RxResult.Frame n t) = cameTo 6 (n % 256) t
-receivedFields RxResult.RxWindowEnded = cameTo 7 0 0
-receivedFields (RxResult.CrcError t) = cameTo 8 0 t
+receivedFields (RxResult.Frame n t quality) = cameTo 6 (n % 256) t quality
+receivedFields RxResult.RxWindowEnded = cameTo 7 0 0 0
+receivedFields (RxResult.CrcError t quality) = cameTo 8 0 t quality
 
 unfoldable pub responseFields : Response → CameTo
-responseFields (Response.Sent t) = cameTo 1 0 t
-responseFields (Response.Nack t) = cameTo 2 0 t
+responseFields (Response.Sent t) = cameTo 1 0 t 0
+responseFields (Response.Nack t) = cameTo 2 0 t 0
 responseFields (Response.Error cause) = causeFields cause
 responseFields (Response.Received x) = receivedFields x
 
 -- "0 no answer; all its bytes are 0"
 abbrev pub noAnswer : AnswerFields
-noAnswer = record { token = 0; buffer = 0; response = cameTo 0 0 0 }
+noAnswer = record { token = 0; buffer = 0; response = cameTo 0 0 0 0 }
 
 unfoldable pub answerFields : Answer → AnswerFields
 answerFields a = record { token = a .token; buffer = a .buffer; response = responseFields (a .response) }
@@ -128,7 +129,7 @@ writtenAnswer x =
     ++ x .buffer
     ∷ x .response .length
     ∷ bytesOf 8 (x .response .time)
-    ++ 0
+    ++ x .response .quality
     ∷ 0
     ∷ 0
     ∷ []
@@ -184,28 +185,28 @@ actionAt bytes =
       time = numberAt bytes 4 8;
     })
 
--- what an answer's codes from 1 on stand for, with the length and the time beside them; a code past the end, which no reply has,
--- is read as the last
-unfoldable pub responseAt : ℕ → ℕ → ℕ → Response
-responseAt code length time =
+-- what an answer's codes from 1 on stand for, with the length, the time and the link quality beside them; a code past the end,
+-- which no reply has, is read as the last
+unfoldable pub responseAt : ℕ → ℕ → ℕ → ℕ → Response
+responseAt code length time quality =
     getD
     (Response.Sent time
     ∷ Response.Nack time
     ∷ Response.Error (Cause.Scheduling Timestamp.BestEffort)
     ∷ Response.Error (Cause.Scheduling (Timestamp.Scheduled time))
     ∷ Response.Error Cause.Task
-    ∷ Response.Received (RxResult.Frame length time)
+    ∷ Response.Received (RxResult.Frame length time quality)
     ∷ Response.Received RxResult.RxWindowEnded
     ∷ [])
     (code - 1)
-    (Response.Received (RxResult.CrcError time))
+    (Response.Received (RxResult.CrcError time quality))
 
 abbrev pub answerAt : List ℕ → ℕ → Answer
 answerAt bytes at =
     record {
       token = numberAt bytes (at + 1) 4;
       buffer = getD bytes (at + 5) 0;
-      response = responseAt (getD bytes at 0) (getD bytes (at + 6) 0) (numberAt bytes (at + 7) 8);
+      response = responseAt (getD bytes at 0) (getD bytes (at + 6) 0) (numberAt bytes (at + 7) 8) (getD bytes (at + 15) 0);
     }
 
 -- the first answer stands at 12, the second at 30
@@ -217,7 +218,7 @@ answersAt bytes =
 unfoldable pub replyAt : List ℕ → Reply
 replyAt bytes = record { action = actionAt bytes; answers = answersAt bytes }
 
--- ---- A law of these definitions; proofs/ReadBack.antt has its proof.
+-- ---- Laws of these definitions; proofs/ReadBack.antt and proofs/Qualities.antt have their proofs.
 
 -- the numbers of a reply fit the bytes that hold them: lengths one byte
 abbrev pub TimestampFits : Timestamp → Type 0
@@ -243,9 +244,9 @@ CauseFits (Cause.Scheduling (Timestamp.Scheduled t)) = t < 2 ^ 64
 CauseFits Cause.Task = Unit {0}
 
 abbrev pub ReceivedFits : RxResult → Type 0
-ReceivedFits (RxResult.Frame n t) = (n < 256) × (t < 2 ^ 64)
+ReceivedFits (RxResult.Frame n t quality) = (n < 256) × (t < 2 ^ 64)
 ReceivedFits RxResult.RxWindowEnded = Unit {0}
-ReceivedFits (RxResult.CrcError t) = t < 2 ^ 64
+ReceivedFits (RxResult.CrcError t quality) = t < 2 ^ 64
 
 abbrev pub ResponseFits : Response → Type 0
 ResponseFits (Response.Sent t) = t < 2 ^ 64
@@ -269,3 +270,25 @@ pub record ReplyFits (r : Reply) : Type 0 where
 -- a reply is read back from its bytes
 abbrev pub ReplyReadsBack : Type 0
 ReplyReadsBack = (r : Reply) → ReplyFits r → replyAt (writtenReply r) ≡ r
+
+-- the link quality of the first answer, and of the second
+abbrev pub firstQuality : Answers → Quality
+firstQuality Answers.None = noQuality
+firstQuality (Answers.One x) = responseQuality (x .response)
+firstQuality (Answers.Two x y) = responseQuality (x .response)
+
+abbrev pub secondQuality : Answers → Quality
+secondQuality Answers.None = noQuality
+secondQuality (Answers.One x) = noQuality
+secondQuality (Answers.Two x y) = responseQuality (y .response)
+
+abbrev pub qualityByte : Quality → ℕ
+qualityByte noQuality = 0
+qualityByte (linkQuality k) = k
+
+-- byte 15 of an answer is its quality, and 0 where it has none
+abbrev pub QualityInItsByte : Type 0
+QualityInItsByte =
+    (r : Reply) →
+    (getD (writtenReply r) (12 + 15) 0 ≡ qualityByte (firstQuality (r .answers)))
+    × (getD (writtenReply r) (30 + 15) 0 ≡ qualityByte (secondQuality (r .answers)))

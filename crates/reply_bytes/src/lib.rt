@@ -29,6 +29,7 @@ pub struct CameTo {
     pub code: u8,
     pub length: u8,
     pub time: u64,
+    pub quality: u8,
 }
 
 // An answer as numbers.
@@ -141,13 +142,14 @@ fn action_fields(a: Action) -> ActionFields
 
 // ---- The answers
 
-fn came_to(code: u8, length: u8, time: u64) -> CameTo
-    ensures { λ r. ⌜ r ≡ cameTo code length time ⌝ }
+fn came_to(code: u8, length: u8, time: u64, quality: u8) -> CameTo
+    ensures { λ r. ⌜ r ≡ cameTo code length time quality ⌝ }
 {
     CameTo {
         code: code,
         length: length,
         time: time,
+        quality: quality,
     }
 }
 
@@ -155,8 +157,8 @@ fn scheduling_fields(start: Timestamp) -> CameTo
     ensures { λ r. ⌜ r ≡ schedulingFields start ⌝ }
 {
     match start {
-        Timestamp::BestEffort => came_to(3, 0, 0),
-        Timestamp::Scheduled(t) => came_to(4, 0, t),
+        Timestamp::BestEffort => came_to(3, 0, 0, 0),
+        Timestamp::Scheduled(t) => came_to(4, 0, t, 0),
     }
 }
 
@@ -165,7 +167,7 @@ fn cause_fields(cause: Cause) -> CameTo
 {
     match cause {
         Cause::Scheduling(start) => scheduling_fields(start),
-        Cause::Task => came_to(5, 0, 0),
+        Cause::Task => came_to(5, 0, 0, 0),
     }
 }
 
@@ -173,9 +175,9 @@ fn received_fields(x: RxResult) -> CameTo
     ensures { λ r. ⌜ r ≡ receivedFields x ⌝ }
 {
     match x {
-        RxResult::Frame(n, t) => came_to(6, (n % 256) as u8, t),
-        RxResult::RxWindowEnded => came_to(7, 0, 0),
-        RxResult::CrcError(t) => came_to(8, 0, t),
+        RxResult::Frame(n, t, k) => came_to(6, (n % 256) as u8, t, k),
+        RxResult::RxWindowEnded => came_to(7, 0, 0, 0),
+        RxResult::CrcError(t, k) => came_to(8, 0, t, k),
     }
 }
 
@@ -183,8 +185,8 @@ fn response_fields(x: Response) -> CameTo
     ensures { λ r. ⌜ r ≡ responseFields x ⌝ }
 {
     match x {
-        Response::Sent(t) => came_to(1, 0, t),
-        Response::Nack(t) => came_to(2, 0, t),
+        Response::Sent(t) => came_to(1, 0, t, 0),
+        Response::Nack(t) => came_to(2, 0, t, 0),
         Response::Error(cause) => cause_fields(cause),
         Response::Received(y) => received_fields(y),
     }
@@ -196,7 +198,7 @@ fn no_answer() -> AnswerFields
     AnswerFields {
         token: 0,
         buffer: 0,
-        response: came_to(0, 0, 0),
+        response: came_to(0, 0, 0, 0),
     }
 }
 
@@ -269,7 +271,7 @@ fn encode_fields(a: ActionFields, x: AnswerFields, y: AnswerFields) -> [u8; 48]
         x_time[5],
         x_time[6],
         x_time[7],
-        0,
+        x.response.quality,
         0,
         0,
         y.response.code,
@@ -287,7 +289,7 @@ fn encode_fields(a: ActionFields, x: AnswerFields, y: AnswerFields) -> [u8; 48]
         y_time[5],
         y_time[6],
         y_time[7],
-        0,
+        y.response.quality,
         0,
         0,
     ]

@@ -22,9 +22,9 @@ use Rattle.results.specs.declared.Leave.{Leave}
 
 -- "10. A received length is 0 or above 127 − F"
 unfoldable pub receivedUnfit : Settings → RxResult → Bool
-receivedUnfit set (RxResult.Frame length time) = eqb length 0 || ltb phyMaxPacketSize (length + set .«fcs_length»)
+receivedUnfit set (RxResult.Frame length time quality) = eqb length 0 || ltb phyMaxPacketSize (length + set .«fcs_length»)
 receivedUnfit set RxResult.RxWindowEnded = false
-receivedUnfit set (RxResult.CrcError time) = false
+receivedUnfit set (RxResult.CrcError time quality) = false
 
 unfoldable pub receivedRefusal : Settings → RxResult → ℕ
 receivedRefusal set r = cond (receivedUnfit set r) 10 0
@@ -73,10 +73,10 @@ ackResponse set pool a length =
 
 -- "the outcome answers Sent or Nack, and "window ended" does not fit"
 unfoldable pub ackReceived : Settings → List ℕ → AwaitedAck → RxResult → Leave
-ackReceived set pool a (RxResult.Frame length time) =
-    owedAnswer (receivedRefusal set (RxResult.Frame length time)) (toTx (a .task) (ackResponse set pool a length))
+ackReceived set pool a (RxResult.Frame length time quality) =
+    owedAnswer (receivedRefusal set (RxResult.Frame length time quality)) (toTx (a .task) (ackResponse set pool a length))
 ackReceived set pool a RxResult.RxWindowEnded = unfitResult
-ackReceived set pool a (RxResult.CrcError time) = owedAnswer 0 (toTx (a .task) (Response.Nack (a .time)))
+ackReceived set pool a (RxResult.CrcError time quality) = owedAnswer 0 (toTx (a .task) (Response.Nack (a .time)))
 
 unfoldable pub leaveReceivingAck : Settings → List ℕ → AwaitedAck → TaskResult → Leave
 leaveReceivingAck set pool a TaskResult.Off = unfitResult

@@ -18,12 +18,12 @@ fn is_received_unfit(set: Settings, r: RxResult) -> bool
     ensures { λ x. ⌜ x ≡ receivedUnfit set r ⌝ }
 {
     match r {
-        RxResult::Frame(n, t) => util::either(
+        RxResult::Frame(n, t, k) => util::either(
             n == 0,
             phy::PHY_MAX_PACKET_SIZE < (n as u32) + (set.fcs_length as u32),
         ),
         RxResult::RxWindowEnded => false,
-        RxResult::CrcError(t) => false,
+        RxResult::CrcError(t, k) => false,
     }
 }
 
@@ -122,12 +122,12 @@ fn ack_received(set: Settings, pool: &[u8], a: AwaitedAck, r: RxResult) -> Leave
 {
     let task = a.task;
     match r {
-        RxResult::Frame(n, t) => owed_answer(
+        RxResult::Frame(n, t, k) => owed_answer(
             received_refusal(set, r),
             tasks::tx_answer(task, ack_response(set, pool, a, n)),
         ),
         RxResult::RxWindowEnded => no_answer(5),
-        RxResult::CrcError(t) => owed_answer(0, tasks::tx_answer(task, Response::Nack(a.time))),
+        RxResult::CrcError(t, k) => owed_answer(0, tasks::tx_answer(task, Response::Nack(a.time))),
     }
 }
 

@@ -24,4 +24,4 @@ unfolding
     leaveOf leaveReceivingAck ackReceived ackResponse answersOf receivedRefusal receivedUnfit frameStart acknowledges threeBytes maskEFFF
     ifsOf latestAckStartOf
 every-row =
-    ((refl, refl), ((refl, refl), ((refl, refl), ((refl, refl), (refl, (refl, (refl, (refl, (refl, (refl, (refl, (refl, tt))))))))))))
+    ((refl, refl), ((refl, refl), ((refl, refl), ((refl, refl), (refl, (refl, ((λ k. refl), ((λ k. refl), ((λ k. refl), ((λ k. refl), ((λ k. refl), (refl, tt))))))))))))

@@ -67,19 +67,20 @@ receivingAck =
 abbrev pub poolWith : List ℕ → List ℕ
 poolWith frame = replicate bufferLength 0 ++ (frame ++ replicate (2 * bufferLength - length frame) 0)
 
--- what the call answers with which the radio tells that it received these three bytes
-abbrev pub answersFor : ℕ → ℕ → ℕ → Answers
-answersFor a b c =
-    stepOf receivingAck (poolWith (a ∷ b ∷ c ∷ [])) (Call.Entered (TaskResult.Rx (RxResult.Frame 3 900000)) 1000000) .reply .answers
+-- what the call answers with which the radio tells that it received these three bytes, with a link quality
+abbrev pub answersFor : ℕ → ℕ → ℕ → ℕ → Answers
+answersFor quality a b c =
+    stepOf receivingAck (poolWith (a ∷ b ∷ c ∷ [])) (Call.Entered (TaskResult.Rx (RxResult.Frame 3 900000 quality)) 1000000) .reply .answers
 
--- what a row says: so many header bytes are enough and one less is not; the other rows give a definition's value
+-- what a row says: so many header bytes are enough and one less is not; the other rows give a definition's value, those of an ACK
+-- whatever its link quality
 unfoldable pub Right : Row → Type 0
 Right (control c bytes) =
     (isThere (infoOf (firstBytes bytes c) .«addressing_fields») ≡ true)
     × (isThere (infoOf (firstBytes (bytes - 1) c) .«addressing_fields») ≡ false)
 Right (spacing len ifs) = ifsOf len ≡ ifs
 Right (for-seven a b c response) =
-    answersFor a b c ≡ Answers.One (record { token = 1; buffer = 2; response = response (awaited .time) })
+    (quality : ℕ) → answersFor quality a b c ≡ Answers.One (record { token = 1; buffer = 2; response = response (awaited .time) })
 Right (entry e t) = latestAckStartOf e ≡ LatestAckStart.At t
 
 unfoldable pub AllRight : List Row → Type 0

@@ -1,2 +1,3 @@
 pub mod Pending
 pub mod Answers
+pub mod Quality

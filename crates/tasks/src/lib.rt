@@ -26,12 +26,12 @@ pub struct Request {
     pub task: Task,
 }
 
-// What a receive task came to: a frame of a length without checksum, received at a time; the end of its window; a frame,
-// received at a time, whose checksum was wrong.
+// What a receive task came to: a frame of a length without checksum, received at a time, with its link quality; the end of its
+// window; a frame, received at a time, whose checksum was wrong, with its link quality.
 pub enum RxResult {
-    Frame(u16, u64),
+    Frame(u16, u64, u8),
     RxWindowEnded,
-    CrcError(u64),
+    CrcError(u64, u8),
 }
 
 // What the previous radio task came to. Off has no result; a transmit result is the time sent.

@@ -42,6 +42,8 @@ pub const DELAY: u64 = 2 * MICROSECOND;
 pub const BEFORE_BYTES: u64 = 192 * MICROSECOND;
 pub const BYTE: u64 = 32 * MICROSECOND;
 pub const CHECKSUM: u16 = 2;
+/// The spreaders swing, and each frame finds the aerials a little otherwise: by how much its link quality is above the lowest.
+const SWING: [u8; 7] = [4, 0, 7, 3, 9, 5, 1];
 
 /// A frame on its way, with the times at which it is heard. The checksum is the radios' affair and not among the bytes.
 pub struct Flying {
@@ -76,14 +78,25 @@ impl Air {
         (self.frames.len() - 1, now + lasts)
     }
 
-    /// Crane B's devices stand close together and hear one another loudly. On crane A the spreader's steel is in the way, and hub A
-    /// hears its own cell no louder than crane B. Everybody else is far away.
+    /// Crane B's devices stand close together and hear one another loudly. Cell A's aerial is bent against the spreader's steel,
+    /// and hub A hears its own cell no louder than crane B. Everybody else is far away.
     fn loudness(from: Who, to: Who) -> u8 {
         if from.on_crane_b() && to.on_crane_b() {
             2
         } else {
             1
         }
+    }
+
+    /// The link quality that the receiving radio tells with a frame, whole or damaged. Cell A's aerial is weak both ways.
+    pub fn quality(&self, id: usize, to: Who) -> u8 {
+        let from = self.frames[id].from;
+        let lowest = match (from, to) {
+            (Who::CellA, _) | (_, Who::CellA) => 48,
+            _ if from.on_crane_b() && to.on_crane_b() => 211,
+            _ => 134,
+        };
+        lowest + SWING[(id + to as usize) % SWING.len()]
     }
 
     /// Whether a frame arrives with a wrong checksum: another one overlaps it and is at least as loud.

@@ -35,6 +35,14 @@ pub struct Told {
     pub arrived: u64,
 }
 
+/// How well a received frame was heard: by whom, who had sent it, and its link quality.
+#[derive(Clone, Copy, Debug, PartialEq, Eq)]
+pub struct Link {
+    pub to: Who,
+    pub from: Sender,
+    pub quality: u8,
+}
+
 /// By the container's name.
 pub type Plan = BTreeMap<String, Weighed>;
 

@@ -18,6 +18,15 @@ pub fn clock(tenths: u32) -> String {
     format!("{hours:02}:{minutes:02}:{:02}.{}", seconds % 60, tenths % 10)
 }
 
+/// What the planners are to take for weak. The driver knows no such limit.
+pub fn is_weak(quality: u8) -> bool {
+    quality < 100
+}
+
+pub fn quality(quality: u8) -> String {
+    format!("link quality {quality}{}", if is_weak(quality) { ": weak" } else { "" })
+}
+
 pub fn sender(sender: &Sender) -> String {
     match sender.address {
         Address::Short(short) => format!("{short:04x} of PAN {:04x}", sender.pan),

@@ -1,6 +1,6 @@
 //! Time, the stations and what happens to them: the radios obey the actions, and their outcomes are the next calls.
-use crate::air::{Air, Who, BEFORE_BYTES, BYTE, MICROSECOND};
-use crate::station::{Phase, Plan, Sender, Station, Told, Wanted, Weighed, Weighing};
+use crate::air::{Air, Flying, Who, BEFORE_BYTES, BYTE, MICROSECOND};
+use crate::station::{Link, Phase, Plan, Sender, Station, Told, Wanted, Weighed, Weighing};
 use crate::words;
 use std::collections::BTreeMap;
 use widosha::*;
@@ -41,6 +41,7 @@ pub struct World {
     pub plan: Plan,
     pub answers: Vec<(Who, &'static str, Response)>,
     pub told: Vec<Told>,
+    pub links: Vec<Link>,
     pub show: Show,
 }
 
@@ -56,6 +57,7 @@ impl World {
             plan: Plan::new(),
             answers: Vec::new(),
             told: Vec::new(),
+            links: Vec::new(),
             show: Show::Nothing,
         }
     }
@@ -289,13 +291,14 @@ impl World {
             Phase::Sending { begin, .. } => TaskResult::Sent { time: begin },
             Phase::Receiving(id) => {
                 let time = self.air.frames[id].end;
+                let quality = self.air.quality(id, self.stations[i].who);
                 if self.air.spoiled(id, self.stations[i].who) {
-                    return TaskResult::Rx(RxResult::CrcError { time });
+                    return TaskResult::Rx(RxResult::CrcError { time, quality });
                 }
                 let length = self.air.frames[id].length();
                 self.write(i, id, length);
                 self.stations[i].overhear(&self.air.frames[id].bytes, &self.plan);
-                TaskResult::Rx(RxResult::Frame { length, time })
+                TaskResult::Rx(RxResult::Frame { length, time, quality })
             }
             _ => TaskResult::Off,
         }
@@ -323,10 +326,12 @@ impl World {
         match wanted {
             Wanted::Send(weighing) => self.cell_host(i, weighing, answer.response),
             Wanted::Receive => {
-                match self.stations[i].driver.received(&answer).map(read_message) {
-                    Some(Message::Weighing(container, weighed)) => self.hand_to_plan(who, container, weighed),
-                    Some(Message::Time(tenths, info)) => self.tell_time(who, tenths, info),
-                    None => {}
+                if let Some((link, message)) = self.message(i, &answer) {
+                    self.links.push(link);
+                    match message {
+                        Message::Weighing(container, weighed) => self.hand_to_plan(&link, container, weighed),
+                        Message::Time(tenths, info) => self.tell_time(&link, tenths, info),
+                    }
                 }
                 if matches!(who, Who::HubA | Who::HubB) {
                     self.stations[i].queue.push_back(Wanted::Receive);
@@ -335,22 +340,36 @@ impl World {
         }
     }
 
-    fn hand_to_plan(&mut self, who: Who, container: String, weighed: Weighed) {
+    /// How well the frame of a receive answer was heard, and what it says. The answer has the link quality that the air had for
+    /// this very frame: it is looked for by the answer's time and the bytes.
+    fn message(&self, i: usize, answer: &Answer) -> Option<(Link, Message)> {
+        let Response::Received(RxResult::Frame { time, quality, .. }) = answer.response else {
+            return None;
+        };
+        let to = self.stations[i].who;
+        let received = self.stations[i].driver.received(answer)?;
+        let is_this = |each: &Flying| each.end == time && each.bytes == received.frame;
+        let id = self.air.frames.iter().position(is_this).expect("it was on the air");
+        assert_eq!(quality, self.air.quality(id, to), "the quality of this very frame");
+        let from = sender_of(&received.info);
+        Some((Link { to, from, quality }, read_message(received)))
+    }
+
+    fn hand_to_plan(&mut self, link: &Link, container: String, weighed: Weighed) {
         let (mass, cell) = (words::tonnes(weighed.kilograms), words::sender(&weighed.by));
-        let text = format!("to the plan: box {container} is {mass} t, weighed by cell {cell}");
-        self.say(who.name(), &text);
+        let quality = words::quality(link.quality);
+        let text = format!("to the plan: box {container} is {mass} t, weighed by cell {cell}, {quality}");
+        self.say(link.to.name(), &text);
         self.plan.insert(container, weighed);
     }
 
-    fn tell_time(&mut self, who: Who, tenths: u32, info: PreliminaryFrameInfo) {
-        let (time, sender) = (words::clock(tenths), words::sender(&sender_of(&info)));
-        self.say(
-            who.name(),
-            &format!("ANSWER received: it is {time}, says {sender} to everyone"),
-        );
+    fn tell_time(&mut self, link: &Link, tenths: u32, info: PreliminaryFrameInfo) {
+        let (time, sender, quality) = (words::clock(tenths), words::sender(&link.from), words::quality(link.quality));
+        let text = format!("ANSWER received: it is {time}, says {sender} to everyone, {quality}");
+        self.say(link.to.name(), &text);
         let arrived = self.now - self.since;
         self.told.push(Told {
-            who,
+            who: link.to,
             tenths,
             info,
             arrived,
@@ -361,6 +380,7 @@ impl World {
         let who = self.stations[i].who;
         let container = weighing.container;
         self.answers.push((who, container, response));
+        assert_eq!(response.quality(), None, "what was sent has no link quality, nor has its ACK");
         let last = self.stations[i].heard.last().filter(|heard| heard.weighing == weighing);
         let heard = last.map_or("nothing".into(), |heard| words::hex(&heard.bytes));
         let number = weighing.number;

@@ -64,6 +64,14 @@ pub fn time(rng: &mut Rng) -> u64 {
     }
 }
 
+/// A link quality, for every call that has the number: also where its code leaves it unused.
+pub fn quality(rng: &mut Rng) -> u8 {
+    match rng.below(10) {
+        0 => rng.pick(&[0, 1, 127, 128, 254, 255]),
+        _ => rng.byte(),
+    }
+}
+
 fn code(rng: &mut Rng, fits: u8) -> u8 {
     if rng.chance(2) {
         rng.pick(&[2, 3, 4, 5, 6, 127, 128, 254, 255])
@@ -166,10 +174,10 @@ fn change(rng: &mut Rng, state: &State, left: &Left, next: &Next) -> Raw {
         Next::Tx(..) if rng.chance(30) => {
             let cause = rng.below(3) as u8;
             let cause = code(rng, cause);
-            Raw::fallback(result, length, time_of_result, cause, time(rng))
+            Raw::fallback(result, length, time_of_result, cause, time(rng), quality(rng))
         }
         Next::Off if rng.chance(20) => Raw::Rollback,
-        _ => Raw::entered(result, length, time_of_result, time(rng)),
+        _ => Raw::entered(result, length, time_of_result, time(rng), quality(rng)),
     }
 }
 
@@ -198,7 +206,8 @@ fn header(rng: &mut Rng, state: &State, buffer: u8, pool: &[u8]) -> Raw {
 
 fn stopped(rng: &mut Rng, state: &State, fits: &[u8]) -> Raw {
     let outcome = if rng.chance(5) { rng.below(6) as u8 } else { rng.pick(fits) };
-    Raw::stopped(code(rng, outcome), received_length(rng, state, false), time(rng))
+    let (outcome, length) = (code(rng, outcome), received_length(rng, state, false));
+    Raw::stopped(outcome, length, time(rng), quality(rng))
 }
 
 /// A call that mostly fits the wait.
@@ -238,10 +247,10 @@ pub fn any(rng: &mut Rng, state: &State) -> Raw {
         1 => Raw::None,
         2 => Raw::FrameStart,
         3 => Raw::outbound_seen(small(rng), time(rng), small(rng)),
-        4 => Raw::stopped(small(rng), length, time(rng)),
+        4 => Raw::stopped(small(rng), length, time(rng), quality(rng)),
         5 => Raw::header(length, rng.number() as u16),
-        6 => Raw::entered(small(rng), length, time(rng), time(rng)),
-        7 => Raw::fallback(small(rng), length, time(rng), small(rng), time(rng)),
+        6 => Raw::entered(small(rng), length, time(rng), time(rng), quality(rng)),
+        7 => Raw::fallback(small(rng), length, time(rng), small(rng), time(rng), quality(rng)),
         _ => Raw::Rollback,
     }
 }

@@ -144,21 +144,28 @@ impl Slices {
                 Raw::None => ffi::widosha_none(s, sl, r, rl, p, pl),
                 Raw::FrameStart => ffi::widosha_frame_start(s, sl, r, rl, p, pl),
                 Raw::OutboundSeen { start, time, cca } => ffi::widosha_outbound_seen(start, time, cca, s, sl, r, rl, p, pl),
-                Raw::Stopped { outcome, length, time } => ffi::widosha_stopped(outcome, length, time, s, sl, r, rl, p, pl),
+                Raw::Stopped {
+                    outcome,
+                    length,
+                    time,
+                    quality,
+                } => ffi::widosha_stopped(outcome, length, time, quality, s, sl, r, rl, p, pl),
                 Raw::Header { arrived, length } => ffi::widosha_header(arrived, length, s, sl, r, rl, p, pl),
                 Raw::Entered {
                     result,
                     length,
                     time,
                     entry,
-                } => ffi::widosha_entered(result, length, time, entry, s, sl, r, rl, p, pl),
+                    quality,
+                } => ffi::widosha_entered(result, length, time, entry, quality, s, sl, r, rl, p, pl),
                 Raw::Fallback {
                     result,
                     length,
                     time,
                     cause,
                     cause_time,
-                } => ffi::widosha_fallback(result, length, time, cause, cause_time, s, sl, r, rl, p, pl),
+                    quality,
+                } => ffi::widosha_fallback(result, length, time, cause, cause_time, quality, s, sl, r, rl, p, pl),
                 Raw::Rollback => ffi::widosha_rollback(s, sl, r, rl, p, pl),
             }
         }

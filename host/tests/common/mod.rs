@@ -1,5 +1,5 @@
 //! What the tests share: random numbers, calls into the library between guard bytes, the comparison with the model, the choice of
-//! calls, recorded runs.
+//! calls, recorded runs, calls for runs that are told outright.
 #![allow(dead_code)]
 
 pub mod choose;
@@ -9,6 +9,7 @@ pub mod library;
 pub mod random;
 pub mod reached;
 pub mod run;
+pub mod scenes;
 
 use random::Rng;
 use std::sync::OnceLock;

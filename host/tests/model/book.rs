@@ -1,5 +1,5 @@
 //! Document 01, "The third demand's book": "It is kept from start, the calls, the pool as each call finds it, and the replies alone,
-//! never from the state."
+//! never from the state." Beside it, from calls and replies alone too, document 02, E6: which answers have which link quality.
 use super::calls::{Raw, RawStart};
 
 /// An accepted request that is still unanswered.
@@ -25,6 +25,7 @@ struct Written {
     code: u8,
     token: u32,
     buffer: u8,
+    quality: u8,
 }
 
 fn answers(reply: &[u8]) -> Vec<Written> {
@@ -32,8 +33,28 @@ fn answers(reply: &[u8]) -> Vec<Written> {
         code: reply[at],
         token: u32::from_le_bytes([reply[at + 1], reply[at + 2], reply[at + 3], reply[at + 4]]),
         buffer: reply[at + 5],
+        quality: reply[at + 15],
     };
     [12, 30].into_iter().map(answer).filter(|written| written.code != 0).collect()
+}
+
+/// E6: "The receive results "frame" and "CRC error" gain the standard's link quality, one byte, and the receive answers made from
+/// them, no others, carry it unaltered." They are made from the results of Entered and Fallback, in the very call.
+fn check_quality(raw: &Raw, written: &Written) -> Result<(), String> {
+    let told = match *raw {
+        Raw::Entered { result, quality, .. } | Raw::Fallback { result, quality, .. } => {
+            [(2, 6), (4, 8)].contains(&(result, written.code)).then_some(quality)
+        }
+        _ => None,
+    };
+    let received = written.code == 6 || written.code == 8;
+    match received == told.is_some() && written.quality == told.unwrap_or(0) {
+        true => Ok(()),
+        false => Err(format!(
+            "answer {} has quality {}, told was {told:?}",
+            written.code, written.quality
+        )),
+    }
 }
 
 impl Book {
@@ -107,6 +128,7 @@ impl Book {
             self.held.push(buffer);
         }
         for written in answers(reply) {
+            check_quality(raw, &written)?;
             self.strike(&written)?;
         }
         self.claims()
@@ -114,7 +136,7 @@ impl Book {
 
     /// "each strikes out the unanswered request with its token, and the buffer it returns"
     fn strike(&mut self, written: &Written) -> Result<(), String> {
-        let Written { code, token, buffer } = *written;
+        let Written { code, token, buffer, .. } = *written;
         let found = self.unanswered.iter().position(|entry| entry.token == token);
         let Some(found) = found else {
             return Err(format!("token {token} is answered, but has no unanswered request"));

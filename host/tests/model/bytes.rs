@@ -308,23 +308,24 @@ fn put_action(bytes: &mut [u8; REPLY], action: &Action) {
     }
 }
 
-/// An answer's 18 bytes: what the request came to, token, buffer, length, time.
+/// An answer's 18 bytes: what the request came to, token, buffer, length, time, link quality.
 fn put_answer(bytes: &mut [u8; REPLY], at: usize, answer: &Answer) {
-    let (code, length, time) = match answer.came_to {
-        CameTo::Sent(time) => (1, 0, time),
-        CameTo::Nack(time) => (2, 0, time),
-        CameTo::Error(Cause::Scheduling) => (3, 0, 0),
-        CameTo::Error(Cause::SchedulingAt(time)) => (4, 0, time),
-        CameTo::Error(Cause::Task) => (5, 0, 0),
-        CameTo::Received(Received::Frame(length, time)) => (6, length as u8, time),
-        CameTo::Received(Received::WindowEnded) => (7, 0, 0),
-        CameTo::Received(Received::CrcError(time)) => (8, 0, time),
+    let (code, length, time, quality) = match answer.came_to {
+        CameTo::Sent(time) => (1, 0, time, 0),
+        CameTo::Nack(time) => (2, 0, time, 0),
+        CameTo::Error(Cause::Scheduling) => (3, 0, 0, 0),
+        CameTo::Error(Cause::SchedulingAt(time)) => (4, 0, time, 0),
+        CameTo::Error(Cause::Task) => (5, 0, 0, 0),
+        CameTo::Received(Received::Frame { length, time, quality }) => (6, length as u8, time, quality),
+        CameTo::Received(Received::WindowEnded) => (7, 0, 0, 0),
+        CameTo::Received(Received::CrcError { time, quality }) => (8, 0, time, quality),
     };
     bytes[at] = code;
     put(bytes, at + 1, &answer.token.to_le_bytes());
     bytes[at + 5] = answer.buffer;
     bytes[at + 6] = length;
     put(bytes, at + 7, &time.to_le_bytes());
+    bytes[at + 15] = quality;
 }
 
 /// The reply as its 48 bytes.

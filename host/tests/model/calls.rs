@@ -1,4 +1,5 @@
-//! Document 01, "Calls": what the host and the radio say, and what is replied; and the numbers of docs/LAYOUTS.md they stand for.
+//! Document 01, "Calls", and document 02, E6: what the host and the radio say, and what is replied; and the numbers of
+//! docs/LAYOUTS.md they stand for.
 use super::settings::Spacing;
 
 #[derive(Clone, Copy, Debug, PartialEq, Eq)]
@@ -25,12 +26,13 @@ pub enum Request {
     },
 }
 
-/// "A receive result is frame (length without checksum, time), window ended, or CRC error (time)"
+/// "A receive result is frame (length without checksum, time), window ended, or CRC error (time)". E6: "The receive results "frame"
+/// and "CRC error" gain the standard's link quality, one byte".
 #[derive(Clone, Copy, Debug, PartialEq, Eq)]
 pub enum Received {
-    Frame(u16, u64),
+    Frame { length: u16, time: u64, quality: u8 },
     WindowEnded,
-    CrcError(u64),
+    CrcError { time: u64, quality: u8 },
 }
 
 /// "previous task's result": "a transmit result is the time sent. Off has no result."
@@ -143,6 +145,7 @@ pub enum Raw {
         outcome: u8,
         length: u16,
         time: u64,
+        quality: u8,
     },
     Header {
         arrived: u16,
@@ -153,6 +156,7 @@ pub enum Raw {
         length: u16,
         time: u64,
         entry: u64,
+        quality: u8,
     },
     Fallback {
         result: u8,
@@ -160,6 +164,7 @@ pub enum Raw {
         time: u64,
         cause: u8,
         cause_time: u64,
+        quality: u8,
     },
     Rollback,
 }
@@ -194,25 +199,29 @@ fn start_of(code: u8, time: u64) -> Option<Start> {
     }
 }
 
-fn stop_of(code: u8, length: u16, time: u64) -> Option<Stop> {
+/// Codes 2 to 4, which stand for the same in `outcome` and `result`.
+fn received_of(code: u8, length: u16, time: u64, quality: u8) -> Option<Received> {
     match code {
-        0 => Some(Stop::FrameStarted),
-        1 => Some(Stop::Failed),
-        2 => Some(Stop::WindowEnded(Received::Frame(length, time))),
-        3 => Some(Stop::WindowEnded(Received::WindowEnded)),
-        4 => Some(Stop::WindowEnded(Received::CrcError(time))),
+        2 => Some(Received::Frame { length, time, quality }),
+        3 => Some(Received::WindowEnded),
+        4 => Some(Received::CrcError { time, quality }),
         _ => None,
     }
 }
 
-fn outcome_of(code: u8, length: u16, time: u64) -> Option<Outcome> {
+fn stop_of(code: u8, length: u16, time: u64, quality: u8) -> Option<Stop> {
+    match code {
+        0 => Some(Stop::FrameStarted),
+        1 => Some(Stop::Failed),
+        _ => received_of(code, length, time, quality).map(Stop::WindowEnded),
+    }
+}
+
+fn outcome_of(code: u8, length: u16, time: u64, quality: u8) -> Option<Outcome> {
     match code {
         0 => Some(Outcome::Off),
         1 => Some(Outcome::Sent(time)),
-        2 => Some(Outcome::Received(Received::Frame(length, time))),
-        3 => Some(Outcome::Received(Received::WindowEnded)),
-        4 => Some(Outcome::Received(Received::CrcError(time))),
-        _ => None,
+        _ => received_of(code, length, time, quality).map(Outcome::Received),
     }
 }
 
@@ -242,30 +251,45 @@ impl Raw {
         Raw::OutboundSeen { start, time, cca }
     }
 
-    pub fn stopped(outcome: u8, length: u16, time: u64) -> Raw {
-        Raw::Stopped { outcome, length, time }
+    pub fn stopped(outcome: u8, length: u16, time: u64, quality: u8) -> Raw {
+        Raw::Stopped {
+            outcome,
+            length,
+            time,
+            quality,
+        }
     }
 
     pub fn header(arrived: u16, length: u16) -> Raw {
         Raw::Header { arrived, length }
     }
 
-    pub fn entered(result: u8, length: u16, time: u64, entry: u64) -> Raw {
+    pub fn entered(result: u8, length: u16, time: u64, entry: u64, quality: u8) -> Raw {
         Raw::Entered {
             result,
             length,
             time,
             entry,
+            quality,
         }
     }
 
-    pub fn fallback(result: u8, length: u16, time: u64, cause: u8, cause_time: u64) -> Raw {
+    pub fn fallback(result: u8, length: u16, time: u64, cause: u8, cause_time: u64, quality: u8) -> Raw {
         Raw::Fallback {
             result,
             length,
             time,
             cause,
             cause_time,
+            quality,
+        }
+    }
+
+    /// The number `quality` of the calls that have one.
+    pub fn quality(&mut self) -> Option<&mut u8> {
+        match self {
+            Raw::Stopped { quality, .. } | Raw::Entered { quality, .. } | Raw::Fallback { quality, .. } => Some(quality),
+            _ => None,
         }
     }
 
@@ -277,21 +301,28 @@ impl Raw {
             Raw::None => Call::None,
             Raw::FrameStart => Call::FrameStart,
             Raw::OutboundSeen { start, time, cca } => Call::OutboundSeen(start_of(start, time)?, yes_or_no(cca)?),
-            Raw::Stopped { outcome, length, time } => Call::Stopped(stop_of(outcome, length, time)?),
+            Raw::Stopped {
+                outcome,
+                length,
+                time,
+                quality,
+            } => Call::Stopped(stop_of(outcome, length, time, quality)?),
             Raw::Header { arrived, length } => Call::Header { arrived, length },
             Raw::Entered {
                 result,
                 length,
                 time,
                 entry,
-            } => Call::Entered(outcome_of(result, length, time)?, entry),
+                quality,
+            } => Call::Entered(outcome_of(result, length, time, quality)?, entry),
             Raw::Fallback {
                 result,
                 length,
                 time,
                 cause,
                 cause_time,
-            } => Call::Fallback(outcome_of(result, length, time)?, cause_of(cause, cause_time)?),
+                quality,
+            } => Call::Fallback(outcome_of(result, length, time, quality)?, cause_of(cause, cause_time)?),
             Raw::Rollback => Call::Rollback,
         })
     }

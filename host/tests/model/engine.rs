@@ -1,4 +1,4 @@
-//! Document 01, "Waits" and "Refusals, in checking order", and document 02, E4: the state and what each call does with it.
+//! Document 01, "Waits" and "Refusals, in checking order", and document 02, E4 and E6: the state and what each call does with it.
 use super::calls::{Action, Answer, Call, CameTo, Cause, Outcome, Received, Reply, Request, Start, Stop, Task};
 use super::header::{self, Control};
 use super::settings::{latest_ack_start, spacing, Settings, Spacing};
@@ -144,6 +144,7 @@ fn accepted(settings: Settings, wait: Wait, action: Action, first: Option<Answer
     ))
 }
 
+/// E6: "the receive answers made from them, no others, carry it unaltered": the result is the answer's as it was told.
 fn answer_rx(rx: Rx, received: Received) -> Answer {
     Answer {
         token: rx.token,
@@ -346,7 +347,7 @@ impl State {
     /// "10. A received length is 0 or above 127 − F"
     fn length_fits(&self, received: &Received) -> Result<(), u8> {
         match *received {
-            Received::Frame(length, _) if length == 0 || length > self.settings.longest() => Err(10),
+            Received::Frame { length, .. } if length == 0 || length > self.settings.longest() => Err(10),
             _ => Ok(()),
         }
     }
@@ -447,7 +448,7 @@ impl State {
     fn is_the_ack(&self, awaited: &Awaited, received: &Received, pool: &[u8]) -> bool {
         let frame = &pool[self.settings.frame(self.settings.spare)..];
         let control = u16::from_le_bytes([frame[0], frame[1]]);
-        matches!(received, Received::Frame(3, _)) && control & 0xefff == 0x0002 && frame[2] == awaited.number
+        matches!(received, Received::Frame { length: 3, .. }) && control & 0xefff == 0x0002 && frame[2] == awaited.number
     }
 
     fn entered(&self, outcome: &Outcome, entry: u64, pool: &[u8]) -> Step {

@@ -10,23 +10,23 @@ use Rattle.call_codes.proofs.Codes.{stop-past}
 
 returns : tie.Need-returns
 unfolding stopOf
-returns c = at-case (stopOf (c .before .args .length) (c .before .args .time)) (c .match .keys1) refl
+returns c = at-case (stopOf (c .before .args .length) (c .before .args .time) (c .before .args .quality)) (c .match .keys1) refl
 
 returns-2 : tie.Need-returns-2
 unfolding stopOf
-returns-2 c = at-case (stopOf (c .before .args .length) (c .before .args .time)) (c .match .keys2) refl
+returns-2 c = at-case (stopOf (c .before .args .length) (c .before .args .time) (c .before .args .quality)) (c .match .keys2) refl
 
 returns-3 : tie.Need-returns-3
 unfolding stopOf
-returns-3 c = at-case (stopOf (c .before .args .length) (c .before .args .time)) (c .match .keys3) refl
+returns-3 c = at-case (stopOf (c .before .args .length) (c .before .args .time) (c .before .args .quality)) (c .match .keys3) refl
 
 returns-4 : tie.Need-returns-4
 unfolding stopOf
-returns-4 c = at-case (stopOf (c .before .args .length) (c .before .args .time)) (c .match .keys4) refl
+returns-4 c = at-case (stopOf (c .before .args .length) (c .before .args .time) (c .before .args .quality)) (c .match .keys4) refl
 
 returns-5 : tie.Need-returns-5
 unfolding stopOf
-returns-5 c = stop-past (c .before .args .length) (c .before .args .time) (c .before .args .code) (omega (arith, c .match .rest .1, c .match .rest .0 .1, c .match .rest .0 .0 .1, c .match .rest .0 .0 .0 .1))
+returns-5 c = stop-past (c .before .args .length) (c .before .args .time) (c .before .args .quality) (c .before .args .code) (omega (arith, c .match .rest .1, c .match .rest .0 .1, c .match .rest .0 .0 .1, c .match .rest .0 .0 .0 .1))
 
 pub stop-of-spec : {M : Type 1} → statement M
 stop-of-spec = tie.close (tie.spec returns returns-2 returns-3 returns-4 returns-5)

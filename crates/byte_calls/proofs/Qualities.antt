@@ -6,7 +6,7 @@ use mathlib.Core.Path.{_≡_, refl, _∙_, ap}
 use mathlib.Core.Bool.{Bool, true, false, cond}
 use mathlib.Core.List.{List}
 use lib.Dec.{ltb, eqb}
-use lib.ListN.{length}
+use lib.ListN.{length, List·getD-map}
 use native.Mathlib.Omega.{arith}
 use borrow.Author.Tests.{eq-eqb, ltb-true}
 use Rattle.tasks.specs.declared.Answer.{Answer}
@@ -35,7 +35,7 @@ use Rattle.reply_bytes.specs.declared.AnswerFields.{AnswerFields}
 use Rattle.reply_bytes.specs.declared.CameTo.{CameTo}
 use Rattle.reply_bytes.specs.Reply.{actionFields, schedulingFields, causeFields, receivedFields, responseFields, answerFields, firstFields, secondFields, writtenFields, writtenReply}
 use Rattle.call_codes.specs.declared.ExportedCall.{ExportedCall}
-use Rattle.call_codes.specs.Codes.{stopOf, resultOf, causeTable, causeOf, known, knownOf, callOf, withQuality, usesQuality, qualityUsed}
+use Rattle.call_codes.specs.Codes.{stopTable, stopOf, resultTable, resultOf, causeTable, causeOf, known, knownOf, callOf, withQuality, usesQuality, qualityUsed}
 use Rattle.call_codes.proofs.Qualities.{differ, unused-quality-ignored}
 use Rattle.outcomes.specs.Outcomes.{unknownOf, madeOutcome, madePool}
 use Rattle.byte_calls.specs.Calls.{callResult, callState, callReply, callPool, toldNumber, hasQuality, answersReceive, CarriesQuality, butQualities, QualityApart, QualityChangesNoOtherByte}
@@ -113,21 +113,11 @@ module _ (x : ExportedCall) where
 module _ (k : ℕ) where
   stop-with : (length time j code : ℕ) → stopOf length time k code ≡ stopWith (λ _. k) (stopOf length time j code)
   unfolding stopOf
-  stop-with length time j zero = refl
-  stop-with length time j (suc zero) = refl
-  stop-with length time j (suc (suc zero)) = refl
-  stop-with length time j (suc (suc (suc zero))) = refl
-  stop-with length time j (suc (suc (suc (suc zero)))) = refl
-  stop-with length time j (suc (suc (suc (suc (suc n))))) = refl
+  stop-with length time j code = List·getD-map (stopWith (λ _. k)) (stopTable length time j) code _
 
   result-with : (length time j code : ℕ) → resultOf length time k code ≡ taskWith (λ _. k) (resultOf length time j code)
   unfolding resultOf
-  result-with length time j zero = refl
-  result-with length time j (suc zero) = refl
-  result-with length time j (suc (suc zero)) = refl
-  result-with length time j (suc (suc (suc zero))) = refl
-  result-with length time j (suc (suc (suc (suc zero)))) = refl
-  result-with length time j (suc (suc (suc (suc (suc n))))) = refl
+  result-with length time j code = List·getD-map (taskWith (λ _. k)) (resultTable length time j) code _
 
   -- the call is the engine's with that quality, and its codes are known or not as before
   call-with : (x : ExportedCall) → (callOf (withQuality k x) ≡ callWith (λ _. k) (callOf x)) × (knownOf (withQuality k x) ≡ knownOf x)

@@ -3,7 +3,9 @@
 use Prim.Native.Nat.{ℕ, zero, suc, _<_}
 use mathlib.Core.Path.{_≡_, refl, ap}
 use mathlib.Core.Bool.{Bool, true, false, _&&_}
+use mathlib.Core.List.{[], _∷_}
 use lib.Dec.{ltb}
+use lib.ListN.{getD}
 use native.Mathlib.Omega.{arith}
 use borrow.Author.Tests.{ltb-true}
 use Rattle.tasks.specs.declared.Call.{Call}
@@ -19,26 +21,24 @@ differ e = let z : _≡_ {A = ℕ} 1 0 = ap flag e in absurd (omega arith)
     flag true = 1
     flag false = 0
 
-past : {A : Type 0} (n : ℕ) → ltb (suc (suc (suc (suc (suc n))))) 5 ≡ true → A
-past n h = let z : suc (suc (suc (suc (suc n)))) < 5 = ltb-true _ _ h in absurd (omega arith)
+-- two tables of five cases that agree in those whose codes leave the quality unused
+unused-same : {A : Type 0} (a b c d e c′ e′ last last′ : A) (code : ℕ) → ltb code 5 ≡ true → usesQuality code ≡ false
+    → getD (a ∷ b ∷ c ∷ d ∷ e ∷ []) code last ≡ getD (a ∷ b ∷ c′ ∷ d ∷ e′ ∷ []) code last′
+unused-same a b c d e c′ e′ last last′ zero h u = refl
+unused-same a b c d e c′ e′ last last′ (suc zero) h u = refl
+unused-same a b c d e c′ e′ last last′ (suc (suc zero)) h u = differ u
+unused-same a b c d e c′ e′ last last′ (suc (suc (suc zero))) h u = refl
+unused-same a b c d e c′ e′ last last′ (suc (suc (suc (suc zero)))) h u = differ u
+unused-same a b c d e c′ e′ last last′ (suc (suc (suc (suc (suc n))))) h u =
+    let z : suc (suc (suc (suc (suc n)))) < 5 = ltb-true _ _ h in absurd (omega arith)
 
 stop-ignores : (length time k j code : ℕ) → ltb code 5 ≡ true → usesQuality code ≡ false → stopOf length time k code ≡ stopOf length time j code
 unfolding stopOf
-stop-ignores length time k j zero h u = refl
-stop-ignores length time k j (suc zero) h u = refl
-stop-ignores length time k j (suc (suc zero)) h u = differ u
-stop-ignores length time k j (suc (suc (suc zero))) h u = refl
-stop-ignores length time k j (suc (suc (suc (suc zero)))) h u = differ u
-stop-ignores length time k j (suc (suc (suc (suc (suc n))))) h u = past n h
+stop-ignores length time k j code h u = unused-same _ _ _ _ _ _ _ _ _ code h u
 
 result-ignores : (length time k j code : ℕ) → ltb code 5 ≡ true → usesQuality code ≡ false → resultOf length time k code ≡ resultOf length time j code
 unfolding resultOf
-result-ignores length time k j zero h u = refl
-result-ignores length time k j (suc zero) h u = refl
-result-ignores length time k j (suc (suc zero)) h u = differ u
-result-ignores length time k j (suc (suc (suc zero))) h u = refl
-result-ignores length time k j (suc (suc (suc (suc zero)))) h u = differ u
-result-ignores length time k j (suc (suc (suc (suc (suc n))))) h u = past n h
+result-ignores length time k j code h u = unused-same _ _ _ _ _ _ _ _ _ code h u
 
 left : (a b : Bool) → a && b ≡ true → a ≡ true
 left true b h = refl

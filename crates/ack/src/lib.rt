@@ -1,4 +1,6 @@
 // The immediate acknowledgement (ack.rs, and receive_frame of driver.rs).
+#![tactic(auto)]
+
 ghost use Rattle.std.specs.Prelude.{◌≡◌};
 ghost use Rattle.ack.specs.Ack.{imm_ack_frame_at, seq_nr_set_at, acknowledges};
 

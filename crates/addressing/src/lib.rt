@@ -1,4 +1,6 @@
 // Which PAN ids stand in a header, and how long each addressing field is (addressing.rs).
+#![tactic(auto)]
+
 ghost use Rattle.std.specs.Prelude.{◌≡◌};
 ghost use Rattle.addressing.specs.Addressing.{present, address_length, pan_id_length, legacy_pan_ids, current_pan_ids, pan_ids_of, lengths_of};
 ghost use Rattle.addressing.specs.Steps.{mode_bits, compression_fields};
@@ -11,14 +13,14 @@ const NOT_PRESENT: bool = false;
 const PRESENT: bool = true;
 
 // Which of the two PAN ids stand in the header.
-#[derive(Drop)]
+#[derive(Clone, Copy)]
 struct PanIdsPresent {
     pub dst: bool,
     pub src: bool,
 }
 
 // The lengths in bytes of the four fields, in their order in the header.
-#[derive(Drop)]
+#[derive(Clone, Copy)]
 pub struct AddressingFieldsLengths {
     pub dst_pan_id: u8,
     pub dst_address: u8,

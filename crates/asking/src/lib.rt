@@ -1,4 +1,6 @@
 // Waits that ask for a request (driver.rs).
+#![tactic(auto)]
+
 ghost use Rattle.std.specs.Prelude.{◌≡◌};
 ghost use Rattle.asking.specs.Asking.{tx_spacing, leaving, previous_task_of, next_of, request_action, taken_of, request_of, to_off, none_of, asking_of};
 
@@ -10,7 +12,7 @@ use tasks::{
 };
 
 // What an ask leaves: the answer that the request or None brings at once, the task that the radio is on, and the spacing.
-#[derive(Drop)]
+#[derive(Clone, Copy)]
 pub struct PreviousTask {
     pub owed: Owed,
     pub left: Left,

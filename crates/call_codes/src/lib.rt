@@ -1,4 +1,6 @@
 // What the numbers of an exported call stand for (docs/LAYOUTS.md, "Codes of the numbers").
+#![tactic(auto)]
+
 ghost use Rattle.std.specs.Prelude.{◌≡◌};
 ghost use Rattle.call_codes.specs.Codes.{timestamp_of, task_of, stop_of, result_of, cause_of, known_of, call_of, settings_of};
 
@@ -6,7 +8,7 @@ use radio_frame::Settings;
 use tasks::{Call, Cause, Request, RxResult, StopResult, Task, TaskResult, Timestamp};
 
 // A call as the host makes it: which function, and its numbers in their order.
-#[derive(Drop)]
+#[derive(Clone, Copy)]
 pub enum ExportedCall {
     Request(u32, u8, u8, u64, u8, u16, u8),
     None,
@@ -20,7 +22,7 @@ pub enum ExportedCall {
 }
 
 // The numbers of a start.
-#[derive(Drop)]
+#[derive(Clone, Copy)]
 pub struct StartNumbers {
     pub count: u8,
     pub headroom: u8,

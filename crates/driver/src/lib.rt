@@ -1,4 +1,6 @@
 // The driver service as a total machine: start, and the nine calls, each made on the state that the last one left (driver.rs).
+#![tactic(auto)]
+
 ghost use Rattle.std.specs.Prelude.{◌≡◌};
 ghost use Rattle.engine.specs.Step.{wait_move, move_of, outcome_of, written_by, start_pool};
 ghost use Rattle.driver.specs.Promises.{Stepped, Started};

@@ -1,4 +1,6 @@
 // The driver service as C functions on numbers and byte slices: docs/LAYOUTS.md.
+#![tactic(auto)]
+
 ghost use Rattle.std.specs.Prelude.{◌≡◌};
 ghost use Rattle.call_codes.specs.declared.ExportedCall.{ExportedCall};
 ghost use Rattle.byte_calls.specs.Calls.{Called};

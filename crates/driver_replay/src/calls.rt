@@ -4,7 +4,7 @@ use radio_frame::Settings;
 use tasks::{Call, Cause, Request, RxResult, StopResult, Task, TaskResult, Timestamp};
 
 // A record is a call, or of no kind that there is.
-#[derive(Drop)]
+#[derive(Clone, Copy)]
 pub enum Read {
     Is(Call),
     Unknown,

@@ -1,5 +1,7 @@
 // Replays the records of standard input, 64 bytes each, over the driver service, and prints a line of 122 bytes for each call
 // and each dump. docs/REPLAY-FORMAT.md has the columns.
+#![tactic(auto)]
+
 mod calls;
 mod columns;
 mod replies;
@@ -10,14 +12,14 @@ use radio_frame::Settings;
 use tasks::{Call, State};
 
 // The state that the last call left, and how many bytes of the pool are lent.
-#[derive(Drop)]
+#[derive(Clone, Copy)]
 struct Session {
     state: State,
     length: usize,
 }
 
 // The session after a record, and whether there may be another.
-#[derive(Drop)]
+#[derive(Clone, Copy)]
 struct Turn {
     session: Session,
     more: bool,

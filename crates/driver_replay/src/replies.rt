@@ -7,7 +7,7 @@ use tasks::{
 };
 
 // The columns of an action; 0 or '-' where the action has no such thing.
-#[derive(Drop)]
+#[derive(Clone, Copy)]
 struct ActionColumns {
     code: u8,
     buffer: u8,
@@ -20,7 +20,7 @@ struct ActionColumns {
 }
 
 // The columns of what an answer says; 0 or '-' where it has no such thing.
-#[derive(Drop)]
+#[derive(Clone, Copy)]
 struct ResponseColumns {
     code: u8,
     length: u16,

@@ -1,5 +1,7 @@
 // The driver service with its waiting line: start, and the eleven calls, each made on the state and the line that the last one left
 // (driver.rs).
+#![tactic(auto)]
+
 ghost use Rattle.std.specs.Prelude.{◌≡◌, [], ◌∷◌, cond, eqb};
 ghost use Rattle.requests.specs.Requests.{allowed_of};
 ghost use Rattle.waiting_line.specs.Line.{requests_of, records, allows, earliest_of};
@@ -269,7 +271,7 @@ pub fn start(set: Settings, l: Line, pool: &mut [u8]) -> ServiceOutcome
 // ---- The line as four records
 
 // What a call comes to, and the four records after it.
-#[derive(Drop)]
+#[derive(Clone, Copy)]
 pub struct LentOutcome {
     pub outcome: Outcome,
     pub first: RequestRecord,

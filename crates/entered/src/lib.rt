@@ -1,4 +1,6 @@
 // What comes after the task that was left: Entered, in a wait for a transition of the radio (driver.rs).
+#![tactic(auto)]
+
 ghost use Rattle.std.specs.Prelude.{◌≡◌};
 ghost use Rattle.phy.specs.Phy.{latest_ack_start_of};
 ghost use Rattle.entered.specs.Entered.{sending_move, arrival_of, request_entered, with_spare, rearm_entered, ack_turn_entered, ack_wait_started, ack_wait_entered, entered_of};

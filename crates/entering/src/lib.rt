@@ -1,4 +1,6 @@
 // Waits for a transition of the radio (driver.rs).
+#![tactic(auto)]
+
 ghost use Rattle.std.specs.Prelude.{◌≡◌};
 ghost use Rattle.entering.specs.Entering.{then_error, request_fell_back, fell_back_of, off_rolled_back, request_rolled_back, rolled_back_of, entering_of};
 

@@ -1,4 +1,6 @@
 // A call and a start of the driver service on numbers and byte slices: the engine's, between reading and writing (docs/LAYOUTS.md).
+#![tactic(auto)]
+
 ghost use Rattle.std.specs.Prelude.{◌≡◌};
 ghost use Rattle.byte_calls.specs.Calls.{Called};
 ghost use Rattle.byte_calls.specs.Start.{StartCalled};

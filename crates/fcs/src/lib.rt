@@ -1,5 +1,7 @@
 // The 16-bit FCS of IEEE 802.15.4: working it out by a table, or of few bytes by shifts, and the check of a frame with its checksum
 // (request E5).
+#![tactic(auto)]
+
 mod table;
 
 ghost use Rattle.std.specs.Prelude.{◌≡◌, cond, [], ◌∷◌, ◌+◌, ◌*◌, ◌/◌, ◌%◌, length, take};
@@ -9,7 +11,7 @@ ghost use Rattle.fcs.specs.Fcs.{bits_of, divide_once, fcs_of};
 ghost use Rattle.fcs.specs.Check.{check_number, FcsChecked};
 
 // What the check says of a frame.
-#[derive(Drop)]
+#[derive(Clone, Copy)]
 pub enum FcsCheck {
     Yes,
     No,

@@ -1,4 +1,6 @@
 // Whether a frame is for this station (utils.rs).
+#![tactic(auto)]
+
 ghost use Rattle.std.specs.Prelude.{◌≡◌};
 ghost use Rattle.filter.specs.Filter.{control_passes, pan_id_for_us, address_for_us, addressing_for_us, for_us};
 

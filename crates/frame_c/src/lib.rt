@@ -1,4 +1,6 @@
 // What can be told of a frame's bytes alone, without a driver service, as C functions: docs/LAYOUTS.md.
+#![tactic(auto)]
+
 ghost use Rattle.std.specs.Prelude.{◌≡◌};
 ghost use Rattle.info_bytes.specs.Info.{InfoCalled};
 ghost use Rattle.fcs.specs.Fcs.{fcs_of};

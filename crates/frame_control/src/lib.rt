@@ -1,9 +1,11 @@
 // The frame control field of an IEEE 802.15.4 MAC header (frame_control.rs).
+#![tactic(auto)]
+
 ghost use Rattle.std.specs.Prelude.{◌≡◌};
 ghost use Rattle.frame_control.specs.FrameControl.{mode_of, frame_control_of, reserved, well_formed};
 
 // How an address stands in the header; Unknown is the reserved mode 1.
-#[derive(Drop)]
+#[derive(Clone, Copy)]
 pub enum AddressingMode {
     Absent,
     Unknown,
@@ -12,7 +14,7 @@ pub enum AddressingMode {
 }
 
 // The named fields of the two bytes.
-#[derive(Drop)]
+#[derive(Clone, Copy)]
 pub struct FrameControl {
     pub frame_type: u8,
     pub security_enabled: bool,

@@ -1,4 +1,6 @@
 // What the arrived bytes of a frame say of it (PreliminaryFrameInfo of tasks.rs).
+#![tactic(auto)]
+
 ghost use Rattle.std.specs.Prelude.{◌≡◌, ◌<◌, ◌≤◌, length};
 ghost use Rattle.header.specs.Header.{frame_control_fact, address_fact, addressing_begin, control_alone, numbered_info, info_of};
 ghost use Rattle.header.specs.Steps.{number_step, pan_id_found, unread_address, inherited_pan_id, src_pan_id_from, before_gap};
@@ -6,28 +8,28 @@ ghost use Rattle.header.specs.Steps.{number_step, pan_id_found, unread_address, 
 use frame_control::{AddressingMode, FrameControl};
 
 // The frame control, once both its bytes have arrived.
-#[derive(Drop)]
+#[derive(Clone, Copy)]
 pub enum FrameControlFact {
     Is(FrameControl),
     Missing,
 }
 
 // The sequence number; it is missing too where it is suppressed.
-#[derive(Drop)]
+#[derive(Clone, Copy)]
 pub enum SeqNrFact {
     Is(u8),
     Missing,
 }
 
 // A PAN id, or none where control omits it.
-#[derive(Drop)]
+#[derive(Clone, Copy)]
 pub enum PanId {
     Omitted,
     Id(u16),
 }
 
 // An address, as the number that its bytes give, low byte first.
-#[derive(Drop)]
+#[derive(Clone, Copy)]
 pub enum Address {
     Absent,
     Short(u16),
@@ -35,42 +37,42 @@ pub enum Address {
 }
 
 // The addressing fields of a header.
-#[derive(Drop)]
+#[derive(Clone, Copy)]
 pub struct AddressingFields {
     pub dst_pan_id: PanId,
     pub dst_address: Address,
 }
 
 // Addressing as one fact.
-#[derive(Drop)]
+#[derive(Clone, Copy)]
 pub enum AddressingFact {
     Are(AddressingFields),
     Missing,
 }
 
 // The source PAN id: the frame's own, or else that of the destination; it is missing too where the frame has none.
-#[derive(Drop)]
+#[derive(Clone, Copy)]
 pub enum SrcPanIdFact {
     Is(u16),
     Missing,
 }
 
 // An address, once its bytes have arrived.
-#[derive(Drop)]
+#[derive(Clone, Copy)]
 pub enum AddressFact {
     Is(Address),
     Missing,
 }
 
 // The place after the address fields, once every byte before it has arrived.
-#[derive(Drop)]
+#[derive(Clone, Copy)]
 pub enum AddressingEndFact {
     Is(u8),
     Missing,
 }
 
 // The facts of a header.
-#[derive(Drop)]
+#[derive(Clone, Copy)]
 pub struct PreliminaryFrameInfo {
     pub frame_control: FrameControlFact,
     pub seq_nr: SeqNrFact,
@@ -81,14 +83,14 @@ pub struct PreliminaryFrameInfo {
 }
 
 // What reading the sequence number finds: the fact, and the place after it.
-#[derive(Drop)]
+#[derive(Clone, Copy)]
 enum NumberFound {
     Then(SeqNrFact, usize),
     Missing,
 }
 
 // What reading a PAN id finds.
-#[derive(Drop)]
+#[derive(Clone, Copy)]
 enum PanIdFound {
     Is(PanId),
     Missing,

@@ -1,4 +1,6 @@
 // The facts of a frame as 32 bytes: docs/LAYOUTS.md.
+#![tactic(auto)]
+
 ghost use Rattle.std.specs.Prelude.{◌≡◌};
 ghost use Rattle.info_bytes.specs.Info.{control_fields, seq_nr_fields, pan_id_fields, address_fields, dst_fields, src_pan_id_fields, src_address_fields, end_byte, written_fields, written_info, InfoCalled};
 
@@ -8,7 +10,7 @@ use header::{
 };
 
 // Control: whether it is there, and its two bytes.
-#[derive(Drop)]
+#[derive(Clone, Copy)]
 struct ControlFields {
     pub there: u8,
     pub low: u8,
@@ -16,28 +18,28 @@ struct ControlFields {
 }
 
 // The sequence number: whether it is there, and its byte.
-#[derive(Drop)]
+#[derive(Clone, Copy)]
 struct SeqNrFields {
     pub there: u8,
     pub number: u8,
 }
 
 // A PAN id: whether it is there, and its number.
-#[derive(Drop)]
+#[derive(Clone, Copy)]
 struct PanIdFields {
     pub there: u8,
     pub number: u16,
 }
 
 // An address: its mode, as control has it, and its number.
-#[derive(Drop)]
+#[derive(Clone, Copy)]
 struct AddressFields {
     pub mode: u8,
     pub number: u64,
 }
 
 // Addressing: whether it is there, the destination's PAN id and the destination.
-#[derive(Drop)]
+#[derive(Clone, Copy)]
 struct DstFields {
     pub there: u8,
     pub pan_id: PanIdFields,
@@ -45,7 +47,7 @@ struct DstFields {
 }
 
 // The source address: whether it is there, and the address.
-#[derive(Drop)]
+#[derive(Clone, Copy)]
 struct SrcAddressFields {
     pub there: u8,
     pub address: AddressFields,

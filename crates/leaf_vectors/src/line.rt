@@ -1,7 +1,7 @@
 // The columns of a line.
 
 // What a line asks, and the answer that it expects.
-#[derive(Drop)]
+#[derive(Clone, Copy)]
 pub struct Question {
     pub section: u8,
     pub kind: u8,

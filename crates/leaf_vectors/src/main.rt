@@ -1,18 +1,20 @@
 // Replays the vectors of standard input, lines of 128 bytes, over the leaves: docs/VECTORS.md has their layout and where they
 // come from. Prints the header bytes of the standard's frames, the counts of each section and the first disagreement.
+#![tactic(auto)]
+
 mod line;
 mod number;
 
 use line::Question;
 
 // The vectors of a section, and those of them at which the answer is the expected one.
-#[derive(Drop)]
+#[derive(Clone, Copy)]
 struct Count {
     vectors: u64,
     agree: u64,
 }
 
-#[derive(Drop)]
+#[derive(Clone, Copy)]
 struct Tally {
     rust: Count,
     differences: Count,
@@ -22,7 +24,7 @@ struct Tally {
 }
 
 // The tally after a line, and whether there may be another.
-#[derive(Drop)]
+#[derive(Clone, Copy)]
 struct Turn {
     tally: Tally,
     more: bool,

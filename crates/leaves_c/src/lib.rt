@@ -1,4 +1,6 @@
 // The leaves as C functions on numbers and byte slices, for comparison with the Rust and for the benchmark.
+#![tactic(auto)]
+
 ghost use Rattle.std.specs.Prelude.{◌≡◌};
 ghost use Rattle.frame_control.specs.FrameControl.{fields_of};
 ghost use Rattle.leaves_c.specs.Leaves.{lengths_number, ack_seq_num_number, is_valid_of, addressing_fields_lengths_of, for_us_of, ack_seq_num_of_frame, is_ack_for_of, from_mpdu_length_of};

@@ -1,4 +1,6 @@
 // The waiting line as 96 bytes (docs/LAYOUTS.md): writing it, and reading it where the bytes are those of a line that fits the state.
+#![tactic(auto)]
+
 ghost use Rattle.std.specs.Prelude.{◌<◌, ◌≡◌, []};
 ghost use Rattle.waiting_line.specs.Line.{requests_of};
 ghost use Rattle.state_bytes.specs.Valid.{same_list};
@@ -9,21 +11,21 @@ use tasks::{Request, State, Task, Timestamp};
 use waiting_line::Line;
 
 // What bytes are read as: a line, or that no line that fits the state is written so (refusal 1).
-#[derive(Drop)]
+#[derive(Clone, Copy)]
 pub enum DecodedLine {
     Valid(Line),
     Invalid,
 }
 
 // A start as numbers.
-#[derive(Drop)]
+#[derive(Clone, Copy)]
 pub struct StartFields {
     pub code: u8,
     pub time: u64,
 }
 
 // A task as numbers.
-#[derive(Drop)]
+#[derive(Clone, Copy)]
 pub struct TaskFields {
     pub kind: u8,
     pub cca: u8,

@@ -1,4 +1,6 @@
 // Listening (driver.rs).
+#![tactic(auto)]
+
 ghost use Rattle.std.specs.Prelude.{◌≡◌};
 ghost use Rattle.listening.specs.Listening.{stop_before, listening_of};
 

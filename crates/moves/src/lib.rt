@@ -1,4 +1,6 @@
 // What a call does, and the moves that several waits make (driver.rs).
+#![tactic(auto)]
+
 ghost use Rattle.std.specs.Prelude.{◌≡◌};
 ghost use Rattle.moves.specs.Move.{refused_of, accepted_of, guarded_of, to_idle, ask_any, listen_on, stop_move};
 
@@ -8,7 +10,7 @@ use tasks::{
 };
 
 // What a call does: its refusal, or 0; the next state; the reply; the number that it writes into the ACK frame, if any.
-#[derive(Drop)]
+#[derive(Clone, Copy)]
 pub struct Move {
     pub refusal: u8,
     pub state: State,

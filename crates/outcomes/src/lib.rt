@@ -1,4 +1,6 @@
 // The engine's outcome of an exported call or start: its refusal where a code stands for nothing.
+#![tactic(auto)]
+
 ghost use Rattle.std.specs.Prelude.{◌≡◌};
 ghost use Rattle.moves.specs.Move.{refused_of};
 ghost use Rattle.engine.specs.Step.{outcome_of};

@@ -1,4 +1,6 @@
 // The spacings between frames (phy.rs), and the time an acknowledgement may start at the latest (driver.rs, timer.rs).
+#![tactic(auto)]
+
 ghost use Rattle.std.specs.Prelude.{◌≡◌};
 ghost use Rattle.phy.specs.Phy.{ifs_of, ifs_code, LatestAckStarts};
 
@@ -6,7 +8,7 @@ ghost use Rattle.phy.specs.Phy.{ifs_of, ifs_code, LatestAckStarts};
 pub const PHY_MAX_PACKET_SIZE: u32 = 127;
 
 // The inter-frame spacings: before an acknowledgement, after a short frame, after a long one.
-#[derive(Drop)]
+#[derive(Clone, Copy)]
 pub enum Ifs {
     Aifs,
     Sifs,
@@ -14,7 +16,7 @@ pub enum Ifs {
 }
 
 // The latest start of an acknowledgement, or that it does not fit 64 bits (refusal 11).
-#[derive(Drop)]
+#[derive(Clone, Copy)]
 pub enum LatestAckStart {
     At(u64),
     Exceeds,

@@ -1,10 +1,12 @@
 // Settings, and the frame record as numbers beside the lent pool (radio_frame.rs, repr.rs).
+#![tactic(auto)]
+
 ghost use Rattle.std.specs.Prelude.{◌≡◌, cond};
 ghost use Rattle.radio_frame.specs.Settings.{pool_unfit, rooms_unfit, own_buffers_unfit, settings_refusal};
 ghost use Rattle.radio_frame.specs.RadioFrame.{frame_start, sdu_length, radio_frame_of, ack_seq_num_of};
 
 // What start sets; a re-arm exchanges the spare buffer. The hardware address is its eight bytes, highest first, as one number.
-#[derive(Drop)]
+#[derive(Clone, Copy)]
 pub struct Settings {
     pub count: u8,
     pub headroom: u8,
@@ -21,14 +23,14 @@ pub struct Settings {
 pub const BUFFER_LENGTH: u32 = 144;
 
 // Places in the pool, from start up to but not including end.
-#[derive(Drop)]
+#[derive(Clone, Copy)]
 pub struct Range {
     pub start: u32,
     pub end: u32,
 }
 
 // Where the parts of a frame of a known length stand in the pool.
-#[derive(Drop)]
+#[derive(Clone, Copy)]
 pub struct RadioFrame {
     pub headroom: Range,
     pub sdu: Range,
@@ -37,7 +39,7 @@ pub struct RadioFrame {
 }
 
 // The number of a frame that wants an acknowledgement.
-#[derive(Drop)]
+#[derive(Clone, Copy)]
 pub enum AckSeqNum {
     Is(u8),
     None,

@@ -1,4 +1,6 @@
 // The header of a frame that is being received (driver.rs).
+#![tactic(auto)]
+
 ghost use Rattle.std.specs.Prelude.{◌≡◌};
 ghost use Rattle.reading.specs.Reading.{broadcast_destination, broadcast, requested, number_to_acknowledge, rearm_move, ack_turn_move, receive_move, header_move_of, arrived_refusal, header_of, reading_of};
 

@@ -1,4 +1,6 @@
 // The reply as 48 bytes (docs/LAYOUTS.md).
+#![tactic(auto)]
+
 ghost use Rattle.std.specs.Prelude.{◌≤◌, ◌≡◌, cond};
 ghost use Rattle.reply_bytes.specs.Reply.{spacing_bits, start_bit, start_time, task_flags, direction_code, action_of, stop_fields, action_fields, came_to, scheduling_fields, cause_fields, received_fields, response_fields, no_answer, answer_fields, first_fields, second_fields, written_fields, written_reply};
 
@@ -8,7 +10,7 @@ use tasks::{
 };
 
 // An action as numbers.
-#[derive(Drop)]
+#[derive(Clone, Copy)]
 pub struct ActionFields {
     pub code: u8,
     pub buffer: u8,
@@ -18,7 +20,7 @@ pub struct ActionFields {
 }
 
 // What a request came to, as numbers.
-#[derive(Drop)]
+#[derive(Clone, Copy)]
 pub struct CameTo {
     pub code: u8,
     pub length: u8,
@@ -27,7 +29,7 @@ pub struct CameTo {
 }
 
 // An answer as numbers.
-#[derive(Drop)]
+#[derive(Clone, Copy)]
 pub struct AnswerFields {
     pub token: u32,
     pub buffer: u8,

@@ -1,4 +1,6 @@
 // What of a state decides a request's refusal (driver.rs).
+#![tactic(auto)]
+
 ghost use Rattle.std.specs.Prelude.{◌≡◌, cond};
 ghost use Rattle.requests.specs.Requests.{slot_has_token, slot_has_buffer, token_held, buffer_held, tx_length_unfit, timed, allow, allowed_of, start_allowed, not_allowed, request_refusal, arrival_refusal};
 

@@ -1,4 +1,6 @@
 // Results of radio tasks: which lengths are refused, and the answer that leaving a task owes (driver.rs, tasks.rs).
+#![tactic(auto)]
+
 ghost use Rattle.std.specs.Prelude.{◌≡◌};
 ghost use Rattle.results.specs.Results.{received_unfit, received_refusal, owed_answer, leave_off, leave_receiving, leave_sending, leave_sending_ack, ack_response, ack_received, leave_receiving_ack, leave_of};
 ghost use Rattle.tasks.specs.declared.Owed.{Owed};
@@ -28,7 +30,7 @@ pub fn received_refusal(set: Settings, r: RxResult) -> u8
 }
 
 // What leaving a task comes to: refusal 5 where the result is not one of that task's, 10, or 0 and the answer that is owed.
-#[derive(Drop)]
+#[derive(Clone, Copy)]
 pub struct Leave {
     pub refusal: u8,
     pub owed: Owed,

@@ -1,4 +1,6 @@
 // The state slice and the reply slice of an exported call: reading the state, writing what an accepted call leaves.
+#![tactic(auto)]
+
 ghost use Rattle.std.specs.Prelude.{◌≡◌};
 ghost use Rattle.slices.specs.Slices.{slices_fit};
 ghost use Rattle.slices.specs.Inner.{ReadAs, Finished};

@@ -1,4 +1,6 @@
 // The state as 64 bytes (docs/LAYOUTS.md): writing it, and reading it where the bytes are those of a valid state.
+#![tactic(auto)]
+
 ghost use Rattle.std.specs.Prelude.{◌<◌, ◌≡◌};
 ghost use Rattle.state_bytes.specs.Layout.{settings_at, task_at, parts_at, state_at, written_parts, written_state};
 ghost use Rattle.state_bytes.specs.Valid.{slot_fits, differs_from, slots_differ, valid_state, same_list, Decodes};
@@ -8,7 +10,7 @@ use tasks::{Slot, State, TxTask};
 use wait_parts::{Part, Parts};
 
 // What bytes are read as: a state, or that no valid state is written so (refusal 1).
-#[derive(Drop)]
+#[derive(Clone, Copy)]
 pub enum Decoded {
     Valid(State),
     Invalid,

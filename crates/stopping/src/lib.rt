@@ -1,4 +1,6 @@
 // Waits for the end of listening (driver.rs).
+#![tactic(auto)]
+
 ghost use Rattle.std.specs.Prelude.{◌≡◌};
 ghost use Rattle.stopping.specs.Stopping.{read_header, frame_stopped, ask_outbound, outbound_stopped, ack_failed, ack_stopped, stopped_of, stopping_of};
 

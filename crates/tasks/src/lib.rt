@@ -1,5 +1,7 @@
 // Requests, radio tasks, their results, the waits, the unanswered requests of a wait, and the one form of answers (driver.rs,
 // tasks.rs).
+#![tactic(auto)]
+
 ghost use Rattle.std.specs.Prelude.{◌≡◌};
 ghost use Rattle.tasks.specs.Pending.{left_slot, next_slot, asked_slot, stop_slot, transition_slots, pending_of};
 ghost use Rattle.tasks.specs.Answers.{to_tx, to_rx, answers_of};
@@ -8,20 +10,20 @@ use phy::Ifs;
 use radio_frame::{AckSeqNum, Settings};
 
 // When a task is to start.
-#[derive(Drop)]
+#[derive(Clone, Copy)]
 pub enum Timestamp {
     BestEffort,
     Scheduled(u64),
 }
 
 // What a request asks for: to send a frame of a length without checksum, with or without a channel check, or to receive one.
-#[derive(Drop)]
+#[derive(Clone, Copy)]
 pub enum Task {
     Tx(u16, bool),
     Rx,
 }
 
-#[derive(Drop)]
+#[derive(Clone, Copy)]
 pub struct Request {
     pub token: u32,
     pub start: Timestamp,
@@ -31,7 +33,7 @@ pub struct Request {
 
 // What a receive task came to: a frame of a length without checksum, received at a time, with its link quality; the end of its
 // window; a frame, received at a time, whose checksum was wrong, with its link quality.
-#[derive(Drop)]
+#[derive(Clone, Copy)]
 pub enum RxResult {
     Frame(u16, u64, u8),
     RxWindowEnded,
@@ -39,7 +41,7 @@ pub enum RxResult {
 }
 
 // What the previous radio task came to. Off has no result; a transmit result is the time sent.
-#[derive(Drop)]
+#[derive(Clone, Copy)]
 pub enum TaskResult {
     Off,
     Sent(u64),
@@ -47,7 +49,7 @@ pub enum TaskResult {
 }
 
 // What stopping a listening radio came to.
-#[derive(Drop)]
+#[derive(Clone, Copy)]
 pub enum StopResult {
     FrameStarted,
     RxWindowEnded(RxResult),
@@ -55,14 +57,14 @@ pub enum StopResult {
 }
 
 // Why a transition fell back.
-#[derive(Drop)]
+#[derive(Clone, Copy)]
 pub enum Cause {
     Scheduling(Timestamp),
     Task,
 }
 
 // The nine calls.
-#[derive(Drop)]
+#[derive(Clone, Copy)]
 pub enum Call {
     Request(Request),
     None,
@@ -76,7 +78,7 @@ pub enum Call {
 }
 
 // An accepted transmit request that has no answer yet.
-#[derive(Drop)]
+#[derive(Clone, Copy)]
 pub struct TxTask {
     pub token: u32,
     pub buffer: u8,
@@ -84,14 +86,14 @@ pub struct TxTask {
 }
 
 // An accepted receive request that has no answer yet.
-#[derive(Drop)]
+#[derive(Clone, Copy)]
 pub struct RxTask {
     pub token: u32,
     pub buffer: u8,
 }
 
 // A transmit request whose frame was sent at a time and wants the acknowledgement with a number.
-#[derive(Drop)]
+#[derive(Clone, Copy)]
 pub struct AwaitedAck {
     pub task: TxTask,
     pub number: u8,
@@ -99,7 +101,7 @@ pub struct AwaitedAck {
 }
 
 // What the radio leaves when it enters the next task, and so whose answer is owed then.
-#[derive(Drop)]
+#[derive(Clone, Copy)]
 pub enum Left {
     Off,
     Receiving(RxTask),
@@ -109,7 +111,7 @@ pub enum Left {
 }
 
 // What the radio enters for a request, or for none. A transmit request's number is noted if its frame wants an ACK.
-#[derive(Drop)]
+#[derive(Clone, Copy)]
 pub enum Next {
     Tx(TxTask, AckSeqNum),
     Rx(RxTask),
@@ -118,7 +120,7 @@ pub enum Next {
 
 // Waits for a request or for None, by what the radio does meanwhile. Idle, after a listening window and after an ACK window
 // it is off; else it works on a task, and the spacing after a received data frame is kept.
-#[derive(Drop)]
+#[derive(Clone, Copy)]
 pub enum Asked {
     Idle,
     AfterWindow(RxTask),
@@ -130,7 +132,7 @@ pub enum Asked {
 }
 
 // Waits for Entered, Fallback or Rollback: for the next request's task, for the re-arm, for an ACK turn, for an ACK wait.
-#[derive(Drop)]
+#[derive(Clone, Copy)]
 pub enum Transition {
     Request(Left, Next),
     Rearm(RxTask),
@@ -139,7 +141,7 @@ pub enum Transition {
 }
 
 // Waits for Stopped: after FrameStart, after OutboundSeen, for an awaited ACK, for it once more after a failure.
-#[derive(Drop)]
+#[derive(Clone, Copy)]
 pub enum Stop {
     Frame(RxTask),
     Outbound(RxTask),
@@ -149,7 +151,7 @@ pub enum Stop {
 
 // The waits, by the calls that fit them: Request and None; Entered, Fallback and Rollback; FrameStart and OutboundSeen;
 // Stopped; Header.
-#[derive(Drop)]
+#[derive(Clone, Copy)]
 pub enum Wait {
     Asking(Asked),
     Entering(Transition),
@@ -158,28 +160,28 @@ pub enum Wait {
     Reading(RxTask),
 }
 
-#[derive(Drop)]
+#[derive(Clone, Copy)]
 pub struct State {
     pub set: Settings,
     pub wait: Wait,
 }
 
 // The spacing before a scheduled task.
-#[derive(Drop)]
+#[derive(Clone, Copy)]
 pub enum NextTaskIfs {
     None,
     Is(Ifs),
 }
 
 // Which requests an ask takes.
-#[derive(Drop)]
+#[derive(Clone, Copy)]
 pub enum TaskDirection {
     Any,
     Outbound,
 }
 
 // How a listening radio is to be stopped.
-#[derive(Drop)]
+#[derive(Clone, Copy)]
 pub enum StopListening {
     Now,
     At(u64),
@@ -188,7 +190,7 @@ pub enum StopListening {
 
 // What the radio or the queue is to do. Tx: buffer, length, channel check, start, spacing, rollback. Rx: buffer, start,
 // spacing, rollback. Off: rollback. Nothing stands in a refusal only.
-#[derive(Drop)]
+#[derive(Clone, Copy)]
 pub enum Action {
     Nothing,
     ReceiveRequest,
@@ -202,7 +204,7 @@ pub enum Action {
 }
 
 // What a request came to: for transmit Sent, Nack and the errors, for receive a receive result.
-#[derive(Drop)]
+#[derive(Clone, Copy)]
 pub enum Response {
     Sent(u64),
     Nack(u64),
@@ -210,7 +212,7 @@ pub enum Response {
     Received(RxResult),
 }
 
-#[derive(Drop)]
+#[derive(Clone, Copy)]
 pub struct Answer {
     pub token: u32,
     pub buffer: u8,
@@ -218,28 +220,28 @@ pub struct Answer {
 }
 
 // What leaving a task owes: at most one answer.
-#[derive(Drop)]
+#[derive(Clone, Copy)]
 pub enum Owed {
     None,
     One(Answer),
 }
 
 // Up to two answers, the earlier request's first.
-#[derive(Drop)]
+#[derive(Clone, Copy)]
 pub enum Answers {
     None,
     One(Answer),
     Two(Answer, Answer),
 }
 
-#[derive(Drop)]
+#[derive(Clone, Copy)]
 pub struct Reply {
     pub action: Action,
     pub answers: Answers,
 }
 
 // Which starts a request may have.
-#[derive(Drop)]
+#[derive(Clone, Copy)]
 pub enum Starts {
     Never,
     BestEffort,
@@ -247,7 +249,7 @@ pub enum Starts {
 }
 
 // The starts that a wait allows, by direction.
-#[derive(Drop)]
+#[derive(Clone, Copy)]
 pub struct Allowed {
     pub tx: Starts,
     pub rx: Starts,
@@ -256,14 +258,14 @@ pub struct Allowed {
 // ---- The unanswered requests of a wait
 
 // The token and the buffer of an unanswered request.
-#[derive(Drop)]
+#[derive(Clone, Copy)]
 pub enum Slot {
     Empty,
     Held(u32, u8),
 }
 
 // The unanswered requests of a wait, the earlier one first.
-#[derive(Drop)]
+#[derive(Clone, Copy)]
 pub struct Pending {
     pub first: Slot,
     pub second: Slot,

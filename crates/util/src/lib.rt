@@ -1,4 +1,6 @@
 // Total helpers: flags, and reading and writing a byte slice at any place, inside it or not.
+#![tactic(auto)]
+
 ghost use Rattle.std.specs.Prelude.{◌≡◌, ◌&&◌, ◌||◌, get_or, set, take, drop};
 ghost use Rattle.util.specs.Bytes.{flag_number, stored_over, number_at, bytes_of};
 
@@ -42,7 +44,7 @@ pub fn store(src: &[u8], dst: &mut [u8])
     ensures { dst.new ≡ stored_over src.now dst.old }
 {
     if src.len() == dst.len() {
-        bytes::copy(src, dst);
+        dst.copy_from_slice(src);
     }
 }
 

@@ -1,4 +1,6 @@
 // A wait as numbers, and numbers as a wait (docs/LAYOUTS.md, "The state's 64 bytes", the tables of kinds and cases).
+#![tactic(auto)]
+
 ghost use Rattle.std.specs.Prelude.{◌≡◌};
 ghost use Rattle.wait_parts.specs.Parts.{no_task, rx_task, part_of, asked_part, left_part, tx_part, next_part, stop_part, alone_parts, transition_parts, wait_parts_of, ifs_at, ack_at, rx_at, asked_at, left_at, next_at, transition_at, stop_at, wait_at};
 
@@ -7,7 +9,7 @@ use radio_frame::AckSeqNum;
 use tasks::{Asked, AwaitedAck, Left, Next, RxTask, Stop, Transition, TxTask, Wait};
 
 // A case of a wait as numbers: its code, and what it holds.
-#[derive(Drop)]
+#[derive(Clone, Copy)]
 pub struct Part {
     pub code: u8,
     pub task: TxTask,
@@ -17,7 +19,7 @@ pub struct Part {
 }
 
 // A wait as numbers: its kind, its case (of a transition for a request: what the radio leaves), and what the radio enters.
-#[derive(Drop)]
+#[derive(Clone, Copy)]
 pub struct Parts {
     pub kind: u8,
     pub case: Part,

@@ -1,4 +1,6 @@
 // The waiting line: requests that have arrived and wait until the service asks for one (DRIVER_CHANNEL_CAPACITY of driver.rs).
+#![tactic(auto)]
+
 ghost use Rattle.std.specs.Prelude.{◌≡◌, [], ◌∷◌, ◌++◌, cond, length, leb};
 ghost use Rattle.waiting_line.specs.Line.{requests_of, waiting, records, allows, has_token, has_buffer, is_tx, any_passes, earliest_of, without_earliest, same_start_of, same_flag_of, names_tx, is_token};
 ghost use Rattle.waiting_line.specs.Inner.{marks_of, any_marked, earliest_marked, without_marked, pushed_of, placed_of, records_of};
@@ -8,20 +10,20 @@ use tasks::{Allowed, Request, Starts, Task, Timestamp};
 pub const DRIVER_CHANNEL_CAPACITY: usize = 4;
 
 // A place of the line.
-#[derive(Drop)]
+#[derive(Clone, Copy)]
 pub enum Place {
     Free,
     Waits(Request),
 }
 
 // A record of the lent line.
-#[derive(Drop)]
+#[derive(Clone, Copy)]
 pub struct RequestRecord {
     pub place: Place,
 }
 
 // The four records of a lent line, by value.
-#[derive(Drop)]
+#[derive(Clone, Copy)]
 pub struct Records {
     pub first: RequestRecord,
     pub second: RequestRecord,
@@ -30,7 +32,7 @@ pub struct Records {
 }
 
 // The requests that wait, in the order of their arrival.
-#[derive(Drop)]
+#[derive(Clone, Copy)]
 pub enum Line {
     Zero,
     One(Request),
@@ -40,14 +42,14 @@ pub enum Line {
 }
 
 // The earliest arrival that passes a test, if there is one.
-#[derive(Drop)]
+#[derive(Clone, Copy)]
 pub enum Found {
     Nothing,
     Earliest(Request),
 }
 
 // Which requests of a line pass a test, by their places in it.
-#[derive(Drop)]
+#[derive(Clone, Copy)]
 pub struct Marks {
     pub first: bool,
     pub second: bool,

@@ -10,12 +10,10 @@ use Rattle.radio_frame.specs.RadioFrame.{frame_start}
 use Rattle.ack.specs.Ack.{acknowledges}
 use Rattle.tasks.specs.declared.AwaitedAck.{AwaitedAck}
 use Rattle.tasks.specs.declared.Response.{Response}
-use borrow.Author.Rules.{rules}
-use Rattle.results.proofs.ack_response.Statement.{statement}
-use Rattle.results.proofs.ack_response.Tie as tie
 use Rattle.results.specs.Results.{ack_response}
-
 -- on each side of the test, the flag being the definition's
+use Rattle.results.proofs.ack_response.Goals as goal
+
 module _ (set : Settings) (pool : List ℕ) (a : AwaitedAck) (length : ℕ) {flag : Bool}
     (e : flag ≡ acknowledges (take 3 (drop (frame_start set set.spare_buffer) pool)) length a.number) where
   is-ack : flag ≡ true → Response.Sent a.time ≡ ack_response set pool a length
@@ -26,31 +24,14 @@ module _ (set : Settings) (pool : List ℕ) (a : AwaitedAck) (length : ℕ) {fla
   unfolding ack_response
   no_ack t = cc
 
-frame-start-requires : tie.Need-frame-start-requires
-frame-start-requires c κs = search rules
-
-cast-at : tie.Need-overflow-cast-at
-cast-at c = search rules
-
-part-requires : tie.Need-part-requires
-part-requires c κs = search rules
-
-is-ack-for-requires : tie.Need-is-ack-for-requires
-is-ack-for-requires c κs = search rules
-
-returns : tie.Need-returns
-returns c =
+pub returns-then-is_ack_for : goal.returns-then-is_ack_for
+returns-then-is_ack_for c =
     is-ack _ _ _ _
-    (rw (c.before.before.part.ensures, c.before.before.before.frame-start.ensures) at c.before.is-ack-for.ensures)
-    c.if1.true
+    (rw (c.part-frame.ensures, c.frame_start-at.ensures) at c.is_ack_for.ensures)
+    c.if-is_ack_for.true
 
-returns-2 : tie.Need-returns-2
-returns-2 c =
+pub returns-else-is_ack_for : goal.returns-else-is_ack_for
+returns-else-is_ack_for c =
     no_ack _ _ _ _
-    (rw (c.before.before.part.ensures, c.before.before.before.frame-start.ensures) at c.before.is-ack-for.ensures)
-    c.if1.false
-
-pub ack-response-spec : {M : Type 1} → statement M
-ack-response-spec =
-    tie.close
-    (tie.spec frame-start-requires cast-at part-requires is-ack-for-requires returns returns-2)
+    (rw (c.part-frame.ensures, c.frame_start-at.ensures) at c.is_ack_for.ensures)
+    c.if-is_ack_for.false

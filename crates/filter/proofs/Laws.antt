@@ -2,7 +2,7 @@
 -- Assumes nothing.
 use Prim.Native.Nat.{ℕ}
 use mathlib.Core.Path.{◌≡◌, refl}
-use mathlib.Core.Bool.{false, and_false}
+use mathlib.Core.Bool.{false, and-false}
 use native.Mathlib.Omega.{arith}
 use Rattle.header.specs.declared.Address.{Address}
 use Rattle.filter.specs.Filter.{hardware_byte, short_address_of, control_passes, pan_id_for_us, address_for_us, addressing_for_us, for_us, OnlyControlAndAddressing, ShortAddressIsLow, AbsentNeedsImplicit}
@@ -22,4 +22,4 @@ absent_foreign hardware = refl
 pub absent_needs_implicit : AbsentNeedsImplicit
 unfolding for_us addressing_for_us
 absent_needs_implicit hardware pan info f e d =
-    rw (e, d, absent_foreign hardware, and_false (pan_id_for_us pan f.dst_pan_id)) (and_false (control_passes info.frame_control))
+    rw (e, d, absent_foreign hardware, and-false (pan_id_for_us pan f.dst_pan_id)) (and-false (control_passes info.frame_control))

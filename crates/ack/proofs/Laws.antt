@@ -2,7 +2,7 @@
 -- Assumes nothing.
 use Prim.Native.Nat.{ℕ, ◌+◌, ◌*◌, ◌/◌, ◌%◌, ◌^◌, ◌≤◌, ◌<◌}
 use mathlib.Core.Path.{◌≡◌, ◌∙◌, sym, ap}
-use mathlib.Core.Bool.{Bool, true, false, ◌&&◌, and_false, and-eq-true_iff}
+use mathlib.Core.Bool.{Bool, true, false, ◌&&◌, and-false, and-eq-true_iff}
 use mathlib.Core.Logic.{inl, inr, ⊎_elim}
 use mathlib.Core.List.{List}
 use native.Mathlib.Nat.{eq-or-lt_of_le, mod-mod}
@@ -39,7 +39,7 @@ three_bytes_lem frame len k h =
 
 not_three : (frame : List ℕ) (len : ℕ) → length frame < 3 → three_bytes frame len ≡ false
 unfolding three_bytes
-not_three frame len h = ap (λ (b : Bool). eqb len 3 && b) (lt-leb 3 (length frame) h) ∙ and_false (eqb len 3)
+not_three frame len h = ap (λ (b : Bool). eqb len 3 && b) (lt-leb 3 (length frame) h) ∙ and-false (eqb len 3)
 
 pub short_frames_never : ShortFramesNever
 unfolding acknowledges

@@ -83,9 +83,9 @@ left_alone m t e = rw e (go t.slice)
     go last = refl
     go (other bytes) = refl
 
-and_false : (a : Bool) → (a && false) ≡ false
-and_false true = refl
-and_false false = refl
+and-false : (a : Bool) → (a && false) ≡ false
+and-false true = refl
+and-false false = refl
 
 -- a wrong state slice is refused
 wrong_slice : (st re po : List ℕ) (x : ExportedCall) → form_ok st 48 ≡ false → call_result st re po x ≡ 1
@@ -94,7 +94,7 @@ wrong_slice st re po x h = go (eqb (length re) 48) refl
   where
     go : (t : Bool) → eqb (length re) 48 ≡ t → call_result st re po x ≡ 1
     go true e = let w : ((eqb (length st) 64 && true) && holds_state st) ≡ false = h in simp (e, w)
-    go false e = simp (e, and_false (eqb (length st) 64))
+    go false e = simp (e, and-false (eqb (length st) 64))
 
 five_or_more : (k : ℕ) → or_five k ≡ 0 → ⊥
 five_or_more k = go (eqb k 0) refl

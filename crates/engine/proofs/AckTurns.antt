@@ -3,7 +3,7 @@
 use Prim.Native.Nat.{ℕ}
 use mathlib.Core.Path.{◌≡◌, refl, sym, ◌∙◌, ap}
 use mathlib.Core.Logic.{inl, inr}
-use mathlib.Core.Bool.{Bool, true, false, cond, ◌||◌, and_false}
+use mathlib.Core.Bool.{Bool, true, false, cond, ◌||◌, and-false}
 use mathlib.Core.List.{List}
 use lib.Dec.{eqb, leb}
 use native.Mathlib.Omega.{arith}
@@ -240,7 +240,7 @@ module _ (s : State) (pool : List ℕ) where
 
     missing_foreign : info.addressing_fields ≡ AddressingFact.Missing → ours ≡ false
     unfolding for_us addressing_for_us
-    missing_foreign e = rw e (and_false (control_passes info.frame_control))
+    missing_foreign e = rw e (and-false (control_passes info.frame_control))
 
     module _ (is_for_us : ours ≡ true) where
       no_bit : (fc : FrameControl) (k : ℕ) (f : AddressingFields) → info.frame_control ≡ FrameControlFact.Is fc

@@ -1,0 +1,17 @@
+-- `results::leave_sending_ack` meets its contract: each arm is what the definition says of that result.
+-- Assumes nothing.
+use Rattle.results.specs.Results.{leave_sending_ack}
+use Rattle.util.proofs.Tests.{at_case}
+use Rattle.results.proofs.leave_sending_ack.Goals as goal
+
+pub returns-in-Off : goal.returns-in-Off
+unfolding leave_sending_ack
+returns-in-Off c = at_case (leave_sending_ack) c.in-Off.is c.no_answer.ensures
+
+pub returns-in-Sent : goal.returns-in-Sent
+unfolding leave_sending_ack
+returns-in-Sent c = at_case (leave_sending_ack) c.in-Sent.is c.no_answer-in-Sent.ensures
+
+pub returns-in-Rx : goal.returns-in-Rx
+unfolding leave_sending_ack
+returns-in-Rx c = at_case (leave_sending_ack) c.in-Rx.is c.no_answer-in-Rx.ensures

@@ -29,9 +29,9 @@ unfolding lengths_of
 lengths_bounded fc =
     record {
       dst_pan = pan_bounded _;
-      dst_address_lem = address_bounded _;
-      src_pan_lem = pan_bounded _;
-      src_address_lem = address_bounded _;
+      dst_address = address_bounded _;
+      src_pan = pan_bounded _;
+      src_address = address_bounded _;
     }
 
 sentence_source : (dst src both compression : Bool) → (current_sentences dst src both compression).src ≡ true → src ≡ true

@@ -37,18 +37,18 @@ legacy_pan_ids dst src compression = record { dst = dst; src = src && not (dst &
 
 -- whether a mode is what the table says of an address, by its length; the reserved mode counts as not present
 abbrev pub fits : AddressEntry → AddressingMode → Bool
-fits AddressEntry.not-present mode = eqb (address_length mode) 0
+fits AddressEntry.not_present mode = eqb (address_length mode) 0
 fits AddressEntry.present mode = ltb 0 (address_length mode)
 fits AddressEntry.short mode = eqb (address_length mode) 2
 fits AddressEntry.extended mode = eqb (address_length mode) 8
 
 abbrev pub stands : PanEntry → Bool
-stands PanEntry.not-present = false
+stands PanEntry.not_present = false
 stands PanEntry.present = true
 
 -- whether a destination mode, a source mode and bit 6 are those of a row
 abbrev pub is_in : AddressingMode → AddressingMode → Bool → Row → Bool
-is_in dst src compression row = fits row.dst_address_lem dst && (fits row.src_address_lem src && eqb row.bit_six (flag_number compression))
+is_in dst src compression row = fits row.dst_address dst && (fits row.src_address src && eqb row.bit_six (flag_number compression))
 
 -- the rows that have them, in the table's order
 abbrev pub rows_of : AddressingMode → AddressingMode → Bool → List Row → List Row
@@ -59,7 +59,7 @@ rows_of dst src compression (row ∷ rows) =
 -- the PANs of the first of them; that there is one, and no second, is the law `OneRowEach`
 abbrev pub pan_ids_in : List Row → PanIdsPresent
 pan_ids_in [] = record { dst = false; src = false }
-pan_ids_in (row ∷ rows) = record { dst = stands row.dst_pan; src = stands row.src_pan_lem }
+pan_ids_in (row ∷ rows) = record { dst = stands row.dst_pan; src = stands row.src_pan }
 
 unfoldable pub current_pan_ids : AddressingMode → AddressingMode → Bool → PanIdsPresent
 current_pan_ids dst src compression = pan_ids_in (rows_of dst src compression compression_table)
@@ -135,9 +135,9 @@ KeepsReading =
 -- a PAN is at most 2 bytes long and an address at most 8
 pub record Bounded (l : AddressingFieldsLengths) : Type 0 where
   pub dst_pan : l.dst_pan_id ≤ 2
-  pub dst_address_lem : l.dst_address ≤ 8
-  pub src_pan_lem : l.src_pan_id ≤ 2
-  pub src_address_lem : l.src_address ≤ 8
+  pub dst_address : l.dst_address ≤ 8
+  pub src_pan : l.src_pan_id ≤ 2
+  pub src_address : l.src_address ≤ 8
 
 abbrev pub LengthsBounded : Type 0
 LengthsBounded = (fc : FrameControl) → Bounded (lengths_of fc)

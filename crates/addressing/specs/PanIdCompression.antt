@@ -17,22 +17,22 @@ pub data PanEntry : Type 0 where
 
 pub record Row : Type 0 where
   pub number : ℕ
-  pub dst_address_lem : AddressEntry
-  pub src_address_lem : AddressEntry
+  pub dst_address : AddressEntry
+  pub src_address : AddressEntry
   pub dst_pan : PanEntry
-  pub src_pan_lem : PanEntry
+  pub src_pan : PanEntry
   pub bit_six : ℕ
 
 infixr 5 ∣◌∣◌∣◌∣◌∣◌∣◌∣◌
 -- a row, and the rows below it
 abbrev pub ∣◌∣◌∣◌∣◌∣◌∣◌∣◌ : ℕ → AddressEntry → AddressEntry → PanEntry → PanEntry → ℕ → List Row → List Row
-∣ number ∣ dst ∣ src ∣ dst_pan ∣ src_pan_lem ∣ bit ∣ rows =
+∣ number ∣ dst ∣ src ∣ dst_pan ∣ src_pan ∣ bit ∣ rows =
     record {
       number = number;
-      dst_address_lem = dst;
-      src_address_lem = src;
+      dst_address = dst;
+      src_address = src;
       dst_pan = dst_pan;
-      src_pan_lem = src_pan_lem;
+      src_pan = src_pan;
       bit_six = bit;
     } ∷ rows
 

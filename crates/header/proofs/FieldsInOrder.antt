@@ -2,10 +2,10 @@
 -- Assumes nothing.
 use Prim.Native.Nat.{ℕ, zero, suc, ◌+◌, ◌≤◌}
 use mathlib.Core.Bool.{Bool, true, false, cond}
-use mathlib.Core.Path.{◌≡◌, refl, sym, ◌∙◌, ap}
+use mathlib.Core.Path.{◌≡◌, refl, ◌∙◌, ap}
 use mathlib.Core.List.{List, [], ◌∷◌, ◌++◌}
 use native.Mathlib.Omega.{arith}
-use lib.ListN.{length, length_append, get_or}
+use lib.ListN.{length, length-append, get_or}
 use borrow.Author.Tests.{le-leb}
 use Rattle.util.specs.Bytes.{number_at}
 use Rattle.frame_control.specs.declared.AddressingMode.{AddressingMode}
@@ -14,15 +14,14 @@ use Rattle.frame_control.specs.declared.FrameControl.{FrameControl}
 use Rattle.frame_control.specs.FrameControl.{frame_control_of, well_formed}
 use Rattle.addressing.specs.Addressing.{address_length, present, pan_id_length, pan_ids_of, lengths_of}
 use Rattle.addressing.proofs.Laws.{source_pan_needs_source}
-use Rattle.header.specs.declared.PanId.{PanId}
 use Rattle.header.specs.declared.Address.{Address}
 use Rattle.header.specs.declared.AddressingFact.{AddressingFact}
 use Rattle.header.specs.declared.SrcPanIdFact.{SrcPanIdFact}
 use Rattle.header.specs.declared.AddressFact.{AddressFact}
 use Rattle.header.specs.declared.AddressingEndFact.{AddressingEndFact}
 use Rattle.header.specs.declared.PreliminaryFrameInfo.{PreliminaryFrameInfo}
-use Rattle.header.specs.Header.{addressing_begin, dst_address_begin, src_pan_id_begin, src_address_begin, header_length, arrived, frame_control_fact, seq_nr_fact, pan_id_of, address_of, addressing_fact, src_pan_id_fact, address_fact, addressing_end_fact, numbered_info, after_control, info_of, FieldsRead, FieldsInOrder, AbsentSourceThere}
-use Rattle.header.proofs.Laws.{number_stays, pan_stays, address_stays}
+use Rattle.header.specs.Header.{addressing_begin, dst_address_begin, src_pan_id_begin, src_address_begin, header_length, frame_control_fact, seq_nr_fact, pan_id_of, address_of, addressing_fact, src_pan_id_fact, address_fact, addressing_end_fact, numbered_info, after_control, info_of, FieldsInOrder, AbsentSourceThere}
+use Rattle.header.proofs.Laws.{pan_stays, address_stays}
 
 -- ---- What stands after a list
 
@@ -99,16 +98,16 @@ module _ (low high : ℕ) (number dp da sp sa : List ℕ) where
         go false e = omega (arith, e)
 
     dst_pan_length : dst_address_begin fc ≡ length to_dst_pan
-    dst_pan_length = let e : length to_dst_pan ≡ length head + length dp = length_append head dp in omega (arith, e, head_length, ld)
+    dst_pan_length = let e : length to_dst_pan ≡ length head + length dp = length-append head dp in omega (arith, e, head_length, ld)
 
     dst_length : src_pan_id_begin fc ≡ length to_dst
-    dst_length = let e : length to_dst ≡ length to_dst_pan + length da = length_append to_dst_pan da in omega (arith, e, dst_pan_length, la)
+    dst_length = let e : length to_dst ≡ length to_dst_pan + length da = length-append to_dst_pan da in omega (arith, e, dst_pan_length, la)
 
     src_pan_length : src_address_begin fc ≡ length to_src_pan
-    src_pan_length = let e : length to_src_pan ≡ length to_dst + length sp = length_append to_dst sp in omega (arith, e, dst_length, lp)
+    src_pan_length = let e : length to_src_pan ≡ length to_dst + length sp = length-append to_dst sp in omega (arith, e, dst_length, lp)
 
     whole_length : header_length fc ≡ length whole
-    whole_length = let e : length whole ≡ length to_src_pan + length sa = length_append to_src_pan sa in omega (arith, e, src_pan_length, ls)
+    whole_length = let e : length whole ≡ length to_src_pan + length sa = length-append to_src_pan sa in omega (arith, e, src_pan_length, ls)
 
     own_pan_id : (pan_ids_of fc).src ≡ true → (info_of to_src_pan).src_pan_id ≡ SrcPanIdFact.Is (number_at sp 0 2)
     unfolding src_pan_id_fact lengths_of pan_id_length

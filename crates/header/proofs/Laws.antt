@@ -2,12 +2,11 @@
 -- Assumes nothing.
 use Prim.Native.Nat.{ℕ, zero, suc, ◌+◌, ◌≤◌, ◌<◌}
 use mathlib.Core.Bool.{Bool, true, false, cond}
-use mathlib.Core.Path.{◌≡◌, refl, sym, ◌∙◌}
+use mathlib.Core.Path.{◌≡◌, refl}
 use mathlib.Core.List.{List, ◌++◌}
 use mathlib.Core.Option.{Option, none, some}
 use native.Mathlib.Omega.{arith}
-use lib.Dec.{leb}
-use lib.ListN.{length, length_append, get_or, get_or-append}
+use lib.ListN.{length, length-append, get_or, get_or-append}
 use borrow.Author.Tests.{leb-true, le-leb}
 use Rattle.util.specs.Bytes.{number_at}
 use Rattle.frame_control.specs.declared.AddressingMode.{AddressingMode}
@@ -23,8 +22,7 @@ use Rattle.header.specs.declared.AddressingFact.{AddressingFact}
 use Rattle.header.specs.declared.SrcPanIdFact.{SrcPanIdFact}
 use Rattle.header.specs.declared.AddressFact.{AddressFact}
 use Rattle.header.specs.declared.AddressingEndFact.{AddressingEndFact}
-use Rattle.header.specs.declared.PreliminaryFrameInfo.{PreliminaryFrameInfo}
-use Rattle.header.specs.Header.{addressing_begin, dst_address_begin, src_pan_id_begin, src_address_begin, header_length, arrived, frame_control_fact, seq_nr_fact, pan_id_of, address_of, addressing_fact, pan_id_bytes, src_pan_id_fact, address_fact, src_address_fact, addressing_end_fact, control_alone, numbered_info, after_control, info_of, HeaderLengthBounded, HeaderBytesDecide, AddressingNeedsHeader, EndsHeader, EndIsHeaderLength, Fact, Says, number_said, addressing_said, src_pan_id_said, address_said, end_said, said, FactsOnlyGrow}
+use Rattle.header.specs.Header.{addressing_begin, dst_address_begin, src_pan_id_begin, src_address_begin, header_length, arrived, frame_control_fact, seq_nr_fact, pan_id_of, address_of, addressing_fact, pan_id_bytes, src_pan_id_fact, address_fact, addressing_end_fact, control_alone, numbered_info, after_control, info_of, HeaderLengthBounded, HeaderBytesDecide, AddressingNeedsHeader, EndsHeader, EndIsHeaderLength, Fact, Says, number_said, addressing_said, src_pan_id_said, address_said, end_said, said, FactsOnlyGrow}
 use Rattle.header.proofs.Fields.{chose_first, control_there, begin_bounded}
 
 pub header_length_bounded : HeaderLengthBounded
@@ -80,7 +78,7 @@ module _ (frame more : List ℕ) where
   later = frame ++ more
 
   longer : length frame ≤ length later
-  longer = simp length_append (omega arith)
+  longer = simp length-append (omega arith)
 
   -- a test of arrived bytes that decides between a fact and its being missing: if they have arrived, more bytes change nothing
   stays : {A : Type 0} (missing : A) (place : ℕ) {there after : A} → place ≤ length frame → after ≡ there → cond (arrived later place) after missing ≡ cond (arrived frame place) there missing
@@ -213,8 +211,8 @@ module _ (frame more : List ℕ) where
     info_grows Fact.control v e = e
     info_grows Fact.number v e = seq_nr_grows e
     info_grows Fact.addressing v e = grows addressing_said AddressingFact.Missing (header_length fc) none_says fields_stay e
-    info_grows Fact.src_pan_id_lem v e = src_pan_grows e
-    info_grows Fact.src_address_lem v e = address_grows (src_address_begin fc) fc.src_addressing_mode e
+    info_grows Fact.src_pan_id v e = src_pan_grows e
+    info_grows Fact.src_address v e = address_grows (src_address_begin fc) fc.src_addressing_mode e
     info_grows Fact.end v e = grows end_said AddressingEndFact.Missing (header_length fc) none_says (λ h. refl) e
 
 pub header_bytes_decide : HeaderBytesDecide
@@ -226,8 +224,8 @@ nothing_said : (fact : Fact) (v : Says fact) → said fact (control_alone FrameC
 nothing_said Fact.control v e = none_says e
 nothing_said Fact.number v e = none_says e
 nothing_said Fact.addressing v e = none_says e
-nothing_said Fact.src_pan_id_lem v e = none_says e
-nothing_said Fact.src_address_lem v e = none_says e
+nothing_said Fact.src_pan_id v e = none_says e
+nothing_said Fact.src_address v e = none_says e
 nothing_said Fact.end v e = none_says e
 
 pub facts_only_grow : FactsOnlyGrow

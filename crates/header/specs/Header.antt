@@ -179,23 +179,23 @@ abbrev pub EndIsHeaderLength : Type 0
 EndIsHeaderLength = (frame : List ℕ) (end : ℕ) → (info_of frame).addressing_end ≡ AddressingEndFact.Is end → EndsHeader frame end
 
 -- A header put together from its fields gives them back, each as soon as its own bytes are there; by `FactsOnlyGrow` so does every frame
--- that begins with them. `to-dst-pan-id` and `to-src-pan-id` are the bytes up to the end of these fields.
-pub record FieldsRead (fc : FrameControl) (dst-pan-id dst_address_lem src_pan_id_lem src_address_lem to-dst-pan-id to-src-pan-id header : List ℕ) : Type 0 where
+-- that begins with them. `to_dst_pan_id` and `to_src_pan_id` are the bytes up to the end of these fields.
+pub record FieldsRead (fc : FrameControl) (dst_pan_id dst_address src_pan_id src_address to_dst_pan_id to_src_pan_id header : List ℕ) : Type 0 where
   -- the source PAN: its own,
-  pub own_pan_id : (pan_ids_of fc).src ≡ true → (info_of to-src-pan-id).src_pan_id ≡ SrcPanIdFact.Is (number_at src_pan_id_lem 0 2)
+  pub own_pan_id : (pan_ids_of fc).src ≡ true → (info_of to_src_pan_id).src_pan_id ≡ SrcPanIdFact.Is (number_at src_pan_id 0 2)
   -- or else, if there is a source, the destination's, before the destination has arrived
   pub pan_id_of_destination :
       (pan_ids_of fc).src ≡ false →
       present fc.src_addressing_mode ≡ true →
       (pan_ids_of fc).dst ≡ true →
-      (info_of to-dst-pan-id).src_pan_id ≡ SrcPanIdFact.Is (number_at dst-pan-id 0 2)
-  pub source : (info_of header).src_address ≡ AddressFact.Is (address_of src_address_lem 0 fc.src_addressing_mode)
+      (info_of to_dst_pan_id).src_pan_id ≡ SrcPanIdFact.Is (number_at dst_pan_id 0 2)
+  pub source : (info_of header).src_address ≡ AddressFact.Is (address_of src_address 0 fc.src_addressing_mode)
   -- the destination, with the last byte of the source
   pub destination :
       (info_of header).addressing_fields
       ≡ AddressingFact.Are (record {
-        dst_pan_id = pan_id_of dst-pan-id 0 (length dst-pan-id);
-        dst_address = address_of dst_address_lem 0 fc.dst_addressing_mode;
+        dst_pan_id = pan_id_of dst_pan_id 0 (length dst_pan_id);
+        dst_address = address_of dst_address 0 fc.dst_addressing_mode;
       })
   -- the end is where the header ends
   pub ends : (info_of header).addressing_end ≡ AddressingEndFact.Is (length header)
@@ -203,17 +203,17 @@ pub record FieldsRead (fc : FrameControl) (dst-pan-id dst_address_lem src_pan_id
 -- "After the sequence number stand destination PAN, destination, source PAN, source": each as long as control says
 abbrev pub FieldsInOrder : Type 0
 FieldsInOrder =
-    (low high : ℕ) (number dst-pan-id dst_address_lem src_pan_id_lem src_address_lem : List ℕ) →
+    (low high : ℕ) (number dst_pan_id dst_address src_pan_id src_address : List ℕ) →
     let fc = frame_control_of low high in
     well_formed fc ≡ true →
     length number ≡ cond fc.sequence_number_suppression 0 1 →
-    length dst-pan-id ≡ (lengths_of fc).dst_pan_id →
-    length dst_address_lem ≡ (lengths_of fc).dst_address →
-    length src_pan_id_lem ≡ (lengths_of fc).src_pan_id →
-    length src_address_lem ≡ (lengths_of fc).src_address →
-    let to-dst-pan-id = low ∷ high ∷ number ++ dst-pan-id in
-    let to-src-pan-id = (to-dst-pan-id ++ dst_address_lem) ++ src_pan_id_lem in
-    FieldsRead fc dst-pan-id dst_address_lem src_pan_id_lem src_address_lem to-dst-pan-id to-src-pan-id (to-src-pan-id ++ src_address_lem)
+    length dst_pan_id ≡ (lengths_of fc).dst_pan_id →
+    length dst_address ≡ (lengths_of fc).dst_address →
+    length src_pan_id ≡ (lengths_of fc).src_pan_id →
+    length src_address ≡ (lengths_of fc).src_address →
+    let to_dst_pan_id = low ∷ high ∷ number ++ dst_pan_id in
+    let to_src_pan_id = (to_dst_pan_id ++ dst_address) ++ src_pan_id in
+    FieldsRead fc dst_pan_id dst_address src_pan_id src_address to_dst_pan_id to_src_pan_id (to_src_pan_id ++ src_address)
 
 -- an absent source address has no bytes, so it is there with control
 abbrev pub AbsentSourceThere : Type 0
@@ -228,8 +228,8 @@ pub data Fact : Type 0 where
   control : Fact
   number : Fact
   addressing : Fact
-  src_pan_id_lem : Fact
-  src_address_lem : Fact
+  src_pan_id : Fact
+  src_address : Fact
   end : Fact
 
 -- what each of them says,
@@ -237,8 +237,8 @@ abbrev pub Says : Fact → Type 0
 Says Fact.control = FrameControl
 Says Fact.number = ℕ
 Says Fact.addressing = AddressingFields
-Says Fact.src_pan_id_lem = ℕ
-Says Fact.src_address_lem = Address
+Says Fact.src_pan_id = ℕ
+Says Fact.src_address = Address
 Says Fact.end = ℕ
 
 abbrev pub control_said : FrameControlFact → Option FrameControl
@@ -270,8 +270,8 @@ abbrev pub said : (fact : Fact) → PreliminaryFrameInfo → Option (Says fact)
 said Fact.control info = control_said info.frame_control
 said Fact.number info = number_said info.seq_nr
 said Fact.addressing info = addressing_said info.addressing_fields
-said Fact.src_pan_id_lem info = src_pan_id_said info.src_pan_id
-said Fact.src_address_lem info = address_said info.src_address
+said Fact.src_pan_id info = src_pan_id_said info.src_pan_id
+said Fact.src_address info = address_said info.src_address
 said Fact.end info = end_said info.addressing_end
 
 -- Facts only grow: a fact that is there for the arrived bytes is there, and the same, when more bytes have arrived.

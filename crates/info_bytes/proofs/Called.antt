@@ -7,7 +7,7 @@ use lib.ListN.{length}
 use borrow.Author.Tests.{eq-eqb, ne_eqb}
 use Rattle.util.specs.Bytes.{stored_over}
 use Rattle.util.proofs.Stores.{over}
-use Rattle.info_bytes.specs.Info.{written_fields, written_facts, written_info, info_at, InfoCalled}
+use Rattle.info_bytes.specs.Info.{written_fields, written_facts, written_info, InfoCalled}
 use Rattle.info_bytes.proofs.ReadBack.{info_reads_back}
 
 info_length : (frame : List ℕ) → length (written_info frame) ≡ 32

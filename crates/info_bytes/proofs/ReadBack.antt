@@ -1,12 +1,12 @@
 -- The facts of a frame are read back from their bytes.
 -- Assumes nothing.
 use Prim.Native.Nat.{ℕ, ◌+◌, ◌^◌, ◌<◌}
-use mathlib.Core.Path.{◌≡◌, refl, sym, ◌∙◌, ap}
+use mathlib.Core.Path.{◌≡◌, refl, sym, ap}
 use mathlib.Core.Bool.{Bool, true, false, cond}
 use mathlib.Core.List.{List}
 use native.Mathlib.Omega.{arith}
 use lib.Dec.{eqb}
-use lib.ListN.{length, get_or}
+use lib.ListN.{get_or}
 use borrow.Author.Tests.{ne_eqb}
 use Rattle.util.specs.Bytes.{number_at, bytes_of, AllBytes}
 use Rattle.util.proofs.Numbers.{read_back, fits_bytes}
@@ -24,15 +24,11 @@ use Rattle.header.specs.declared.AddressFact.{AddressFact}
 use Rattle.header.specs.declared.AddressingEndFact.{AddressingEndFact}
 use Rattle.header.specs.declared.PreliminaryFrameInfo.{PreliminaryFrameInfo}
 use Rattle.addressing.specs.Addressing.{present, pan_ids_of}
-use Rattle.header.specs.Header.{addressing_begin, src_pan_id_begin, arrived, header_length, frame_control_fact, seq_nr_fact, pan_id_of, address_of, addressing_fact, src_pan_id_fact, address_fact, addressing_end_fact, after_control, info_of}
+use Rattle.header.specs.Header.{addressing_begin, src_pan_id_begin, arrived, header_length, frame_control_fact, pan_id_of, address_of, addressing_fact, src_pan_id_fact, address_fact, addressing_end_fact, after_control, info_of}
 use Rattle.header.proofs.Fields.{chose_first, no_control}
 use Rattle.header.proofs.Laws.{header_length_bounded}
-use Rattle.info_bytes.specs.declared.ControlFields.{ControlFields}
-use Rattle.info_bytes.specs.declared.SeqNrFields.{SeqNrFields}
 use Rattle.info_bytes.specs.declared.PanIdFields.{PanIdFields}
 use Rattle.info_bytes.specs.declared.AddressFields.{AddressFields}
-use Rattle.info_bytes.specs.declared.DstFields.{DstFields}
-use Rattle.info_bytes.specs.declared.SrcAddressFields.{SrcAddressFields}
 use Rattle.info_bytes.specs.Info.{control_fields, seq_nr_fields, pan_id_fields, address_fields, dst_fields, src_pan_id_fields, src_address_fields, end_byte, written_fields, written_facts, written_info, info_at, InfoReadsBack}
 
 -- ---- What the bytes can hold
@@ -69,8 +65,8 @@ EndFits AddressingEndFact.Missing = Unit {0}
 record Fits (low high : ℕ) (info : PreliminaryFrameInfo) : Type 0 where
   control : ControlFits low high info.frame_control
   addressing : AddressingFits info.addressing_fields
-  src_pan_id_lem : SrcPanIdFits info.src_pan_id
-  src_address_lem : SrcAddressFits info.src_address
+  src_pan_id : SrcPanIdFits info.src_pan_id
+  src_address : SrcAddressFits info.src_address
   end : EndFits info.addressing_end
 
 -- ---- Each fact by itself, from its numbers
@@ -137,8 +133,8 @@ facts_back low high info F =
     let c = control_back low high info.frame_control F.control in
     let n = seq_nr_back info.seq_nr in
     let d = dst_back info.addressing_fields F.addressing in
-    let p = src_pan_id_back info.src_pan_id F.src_pan_id_lem in
-    let s = src_address_back info.src_address F.src_address_lem in
+    let p = src_pan_id_back info.src_pan_id F.src_pan_id in
+    let s = src_address_back info.src_address F.src_address in
     let e = end_back info.addressing_end F.end in
     λ i. record { frame_control = c i; seq_nr = n i; addressing_fields = d i; src_pan_id = p i; src_address = s i; addressing_end = e i }
 
@@ -184,7 +180,7 @@ module _ (frame : List ℕ) (bytes : AllBytes frame) where
 
   facts_fit : (c : FrameControlFact) → frame_control_fact frame ≡ c → Fit (after_control frame c)
   unfolding after_control frame_control_fact addressing_fact addressing_end_fact
-  facts_fit FrameControlFact.Missing there = record { control = tt; addressing = tt; src_pan_id_lem = tt; src_address_lem = tt; end = tt }
+  facts_fit FrameControlFact.Missing there = record { control = tt; addressing = tt; src_pan_id = tt; src_address = tt; end = tt }
   facts_fit (FrameControlFact.Is fc) there =
       let f : FrameControlFact.Is (frame_control_of (get_or frame 0 0) (get_or frame 1 0)) ≡ FrameControlFact.Is fc = (chose_first (arrived frame 2) there no_control).1 in
       let e : fc ≡ frame_control_of (get_or frame 0 0) (get_or frame 1 0) = cc in
@@ -193,11 +189,11 @@ module _ (frame : List ℕ) (bytes : AllBytes frame) where
       (record {
         control = e;
         addressing = of_both AddressingFits (arrived frame (header_length fc)) (pan_fits _ _, address_fits _ _) tt;
-        src_pan_id_lem = src_pan_id_fits fc;
-        src_address_lem = src_address_fits _ _;
+        src_pan_id = src_pan_id_fits fc;
+        src_address = src_address_fits _ _;
         end = of_both EndFits (arrived frame (header_length fc)) (omega (arith, k.0)) tt;
       })
-      (record { control = e; addressing = tt; src_pan_id_lem = tt; src_address_lem = tt; end = tt })
+      (record { control = e; addressing = tt; src_pan_id = tt; src_address = tt; end = tt })
 
 pub info_reads_back : InfoReadsBack
 unfolding written_info info_of

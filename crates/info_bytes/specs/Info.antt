@@ -126,8 +126,8 @@ addressing_at bytes =
     (AddressingFact.Are (record { dst_pan_id = pan_id_at bytes 6; dst_address = address_at bytes 9 }))
     AddressingFact.Missing
 
-abbrev pub src_pan_id_at_of : List ℕ → SrcPanIdFact
-src_pan_id_at_of bytes = cond (eqb (get_or bytes 18 0) 1) (SrcPanIdFact.Is (number_at bytes 19 2)) SrcPanIdFact.Missing
+abbrev pub src_pan_id_at : List ℕ → SrcPanIdFact
+src_pan_id_at bytes = cond (eqb (get_or bytes 18 0) 1) (SrcPanIdFact.Is (number_at bytes 19 2)) SrcPanIdFact.Missing
 
 abbrev pub src_address_at : List ℕ → AddressFact
 src_address_at bytes = cond (eqb (get_or bytes 21 0) 1) (AddressFact.Is (address_at bytes 22)) AddressFact.Missing
@@ -141,7 +141,7 @@ info_at bytes =
       frame_control = control_at bytes;
       seq_nr = seq_nr_at bytes;
       addressing_fields = addressing_at bytes;
-      src_pan_id = src_pan_id_at_of bytes;
+      src_pan_id = src_pan_id_at bytes;
       src_address = src_address_at bytes;
       addressing_end = end_at bytes;
     }

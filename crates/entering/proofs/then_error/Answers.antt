@@ -7,10 +7,10 @@ use Rattle.entering.proofs.then_error.Goals as goal
 
 pub returns-in-None : goal.returns-in-None
 unfolding then_error
-returns-in-None c = at_case (then_error _ _) c.in-None.is (rw c.tx_answer-error.ensures refl)
+returns-in-None c = at_case (then_error c.args.q c.args.cause) c.in-None.is (rw c.tx_answer-error.ensures refl)
 
 pub returns-in-One : goal.returns-in-One
 unfolding then_error
 returns-in-One c =
-    at_case (then_error _ _) c.in-One.is
+    at_case (then_error c.args.q c.args.cause) c.in-One.is
     (rw c.tx_answer-error.ensures refl)

@@ -9,6 +9,8 @@ mod replies;
 use calls::Read;
 use engine::Outcome;
 use radio_frame::Settings;
+use std::io;
+use std::io::ErrorKind;
 use tasks::{Call, State};
 
 // The state that the last call left, and how many bytes of the pool are lent.
@@ -47,32 +49,32 @@ fn short(n: u64) -> usize {
 }
 
 // A refused start leaves the session as it was.
-fn start(pool: &mut [u8], s: Session, line: &[u8]) -> Session {
+fn start(rt: &impl Print, pool: &mut [u8], s: Session, line: &[u8]) -> io::Result<Session> {
     let length = short(columns::double(line, 21));
     let o = start_on(pool, length, calls::settings(line));
     let state = o.state;
     let reply = o.reply;
-    replies::print(b's', o.refusal, reply);
+    replies::print(rt, b's', o.refusal, reply)?;
     if o.refusal == 0 {
-        Session {
+        Ok(Session {
             state: state,
             length: length,
-        }
+        })
     } else {
-        s
+        Ok(s)
     }
 }
 
-fn call(pool: &mut [u8], s: Session, kind: u8, c: Call) -> Session {
+fn call(rt: &impl Print, pool: &mut [u8], s: Session, kind: u8, c: Call) -> io::Result<Session> {
     let before = s.state;
     let o = step_on(pool, s.length, before, c);
     let state = o.state;
     let reply = o.reply;
-    replies::print(kind, o.refusal, reply);
-    Session {
+    replies::print(rt, kind, o.refusal, reply)?;
+    Ok(Session {
         state: state,
         length: s.length,
-    }
+    })
 }
 
 fn lend(s: Session, line: &[u8]) -> Session {
@@ -142,7 +144,7 @@ fn put_sixteen(out: &mut [u8], column: usize, pool: &[u8], at: usize) {
 }
 
 // Prints 48 bytes of the pool from a place on.
-fn dump(pool: &[u8], line: &[u8]) {
+fn dump(rt: &impl Print, pool: &[u8], line: &[u8]) -> io::Result<()> {
     let mut out = [b' '; 122];
     let place = columns::word(line, 2);
     let at = place as usize;
@@ -152,11 +154,11 @@ fn dump(pool: &[u8], line: &[u8]) {
     put_sixteen(&mut out, 43, pool, std::num::wrapping_add_usize(at, 16));
     put_sixteen(&mut out, 75, pool, std::num::wrapping_add_usize(at, 32));
     util::put(&mut out, 121, b'\n');
-    io::write_all(1, &out);
+    rt.write_all(&out)
 }
 
 // Prints the three bytes of the ACK buffer's frame.
-fn dump_ack(pool: &[u8], set: Settings) {
+fn dump_ack(rt: &impl Print, pool: &[u8], set: Settings) -> io::Result<()> {
     let mut out = [b' '; 122];
     let place = radio_frame::frame_start(set, set.ack_buffer);
     let at = place as usize;
@@ -174,80 +176,97 @@ fn dump_ack(pool: &[u8], set: Settings) {
         util::byte_at(pool, std::num::wrapping_add_usize(at, 2)),
     );
     util::put(&mut out, 121, b'\n');
-    io::write_all(1, &out);
+    rt.write_all(&out)
 }
 
 // A record that is no start and no call.
-fn other(pool: &mut [u8; 4752], s: Session, line: &[u8], kind: u8) -> Session {
+fn other(
+    rt: &impl Print,
+    pool: &mut [u8; 4752],
+    s: Session,
+    line: &[u8],
+    kind: u8,
+) -> io::Result<Session> {
     let state = s.state;
     let set = state.set;
     match kind {
-        b'l' => lend(s, line),
+        b'l' => Ok(lend(s, line)),
         b'w' => {
             write(pool, line);
-            s
+            Ok(s)
         }
         b'z' => {
             *pool = [0u8; 4752];
-            s
+            Ok(s)
         }
         b'd' => {
-            dump(pool, line);
-            s
+            dump(rt, pool, line)?;
+            Ok(s)
         }
         b'a' => {
-            dump_ack(pool, set);
-            s
+            dump_ack(rt, pool, set)?;
+            Ok(s)
         }
         _ => {
-            io::write_all(1, b"unknown record\n");
-            s
+            rt.write_all(b"unknown record\n")?;
+            Ok(s)
         }
     }
 }
 
-fn record(pool: &mut [u8; 4752], s: Session, line: &[u8]) -> Session {
+fn record(rt: &impl Print, pool: &mut [u8; 4752], s: Session, line: &[u8]) -> io::Result<Session> {
     let kind = util::byte_at(line, 0);
     if kind == b's' {
-        return start(pool, s, line);
+        return start(rt, pool, s, line);
     }
     let c = calls::call(line);
     match c {
-        Read::Is(x) => call(pool, s, kind, x),
-        Read::Unknown => other(pool, s, line, kind),
+        Read::Is(x) => call(rt, pool, s, kind, x),
+        Read::Unknown => other(rt, pool, s, line, kind),
     }
 }
 
-fn next_record(pool: &mut [u8; 4752], s: Session) -> Turn {
+// The input ends where fewer bytes than a record's are left.
+fn next_record(
+    rt: &impl Print,
+    input: &mut impl io::Read,
+    pool: &mut [u8; 4752],
+    s: Session,
+) -> io::Result<Turn> {
     let mut line = [0u8; 64];
-    let n = io::read_full(0, &mut line);
-    if n < 64 {
-        return Turn {
+    match input.read_exact(&mut line) {
+        Ok(()) => Ok(Turn {
+            session: record(rt, pool, s, &line)?,
+            more: true,
+        }),
+        Err(e) if e.kind() == ErrorKind::UnexpectedEof => Ok(Turn {
             session: s,
             more: false,
-        };
-    }
-    Turn {
-        session: record(pool, s, &line),
-        more: true,
+        }),
+        Err(e) => Err(e),
     }
 }
 
-fn replay(pool: &mut [u8; 4752], first: Session) {
+fn replay(
+    rt: &impl Print,
+    input: &mut impl io::Read,
+    pool: &mut [u8; 4752],
+    first: Session,
+) -> io::Result<()> {
     let mut session = first;
-    let mut left = u64::MAX;
-    while left > 0 {
-        left = left - 1;
-        let next = next_record(pool, session);
+    for _ in 0..u64::MAX {
+        let next = next_record(rt, input, pool, session)?;
         session = next.session;
         if !next.more {
-            left = 0;
+            break;
         }
     }
+    Ok(())
 }
 
 // Before the first accepted start the settings are none that are accepted.
-fn main() {
+fn main(rt: HostRuntime) -> io::Result<()> {
+    let mut input = rt.reader();
     let mut pool = [0u8; 4752];
     let o = driver::start(
         Settings {
@@ -265,10 +284,12 @@ fn main() {
     );
     let state = o.state;
     replay(
+        &rt,
+        &mut input,
         &mut pool,
         Session {
             state: state,
             length: 0,
         },
-    );
+    )
 }

@@ -1,6 +1,7 @@
 // A reply as a line of 122 bytes. docs/REPLAY-FORMAT.md has the columns.
 use crate::columns;
 use phy::Ifs;
+use std::io;
 use tasks::{
     Action, Answer, Answers, Cause, NextTaskIfs, Reply, Response, RxResult, StopListening,
     TaskDirection, Timestamp,
@@ -217,7 +218,7 @@ fn put_answers(line: &mut [u8], answers: Answers) {
 }
 
 // Prints the kind of a record, the refusal and the reply.
-pub fn print(kind: u8, refusal: u8, reply: Reply) {
+pub fn print(rt: &impl Print, kind: u8, refusal: u8, reply: Reply) -> io::Result<()> {
     let mut line = [b' '; 122];
     let action = reply.action;
     let answers = reply.answers;
@@ -226,5 +227,5 @@ pub fn print(kind: u8, refusal: u8, reply: Reply) {
     put_action(&mut line, action_columns(action));
     put_answers(&mut line, answers);
     util::put(&mut line, 121, b'\n');
-    io::write_all(1, &line);
+    rt.write_all(&line)
 }

@@ -6,6 +6,8 @@ mod line;
 mod number;
 
 use line::Question;
+use std::io;
+use std::io::ErrorKind;
 
 // The vectors of a section, and those of them at which the answer is the expected one.
 #[derive(Clone, Copy)]
@@ -73,44 +75,48 @@ fn answer(q: Question, frame: &[u8]) -> u64 {
 }
 
 // Shows the header bytes of a frame of the standard.
-fn show(section: u8, kind: u8, line: &[u8], found: u64) {
+fn show(rt: &impl Print, section: u8, kind: u8, line: &[u8], found: u64) -> io::Result<()> {
     if section == b'S' {
         if kind == b'h' {
-            io::write_all(1, util::part(line, 102, 25));
-            io::write_all(1, b": ");
-            io::print_decimal(1, found);
-            io::write_all(1, b" header bytes\n");
+            rt.write_all(util::part(line, 102, 25))?;
+            println!(rt; ": {found} header bytes")?;
         }
     }
+    Ok(())
 }
 
 // Shows the first line at which the answer is not the expected one.
-fn complain(earlier: u64, agrees: bool, line: &[u8], found: u64) {
+fn complain(
+    rt: &impl Print,
+    earlier: u64,
+    agrees: bool,
+    line: &[u8],
+    found: u64,
+) -> io::Result<()> {
     if earlier == 0 {
         if !agrees {
-            io::write_all(1, b"first disagreement: ");
-            io::print_hex(1, found, 16);
-            io::write_all(1, b" at\n");
-            io::write_all(1, line);
+            println!(rt; "first disagreement: {found:016x} at")?;
+            rt.write_all(line)?;
         }
     }
+    Ok(())
 }
 
 // The tally with one vector more.
-fn judged(t: Tally, line: &[u8]) -> Tally {
+fn judged(rt: &impl Print, t: Tally, line: &[u8]) -> io::Result<Tally> {
     let q = line::asked(line);
     let bytes = line::frame(line);
     let found = answer(q, util::part(&bytes, 0, q.length));
     let agrees = found == q.expected;
     let section = q.section;
-    show(section, q.kind, line, found);
-    complain(t.wrong, agrees, line, found);
+    show(rt, section, q.kind, line, found)?;
+    complain(rt, t.wrong, agrees, line, found)?;
     let rust = t.rust;
     let differences = t.differences;
     let standard = t.standard;
     let marked = t.marked;
     let wrong = std::num::wrapping_add_u64(t.wrong, number::flag(!agrees));
-    match section {
+    let tally = match section {
         b'R' => Tally {
             rust: counted(rust, agrees),
             differences: differences,
@@ -146,63 +152,62 @@ fn judged(t: Tally, line: &[u8]) -> Tally {
             marked: marked,
             wrong: wrong,
         },
-    }
+    };
+    Ok(tally)
 }
 
-fn next_line(t: Tally) -> Turn {
+// The input ends where fewer bytes than a line's are left.
+fn next_line(rt: &impl Print, input: &mut impl io::Read, t: Tally) -> io::Result<Turn> {
     let mut bytes = [0u8; 128];
-    let n = io::read_full(0, &mut bytes);
-    if n < 128 {
-        return Turn {
+    match input.read_exact(&mut bytes) {
+        Ok(()) => Ok(Turn {
+            tally: judged(rt, t, &bytes)?,
+            more: true,
+        }),
+        Err(e) if e.kind() == ErrorKind::UnexpectedEof => Ok(Turn {
             tally: t,
             more: false,
-        };
-    }
-    Turn {
-        tally: judged(t, &bytes),
-        more: true,
+        }),
+        Err(e) => Err(e),
     }
 }
 
-fn replay(start: Tally) -> Tally {
+fn replay(rt: &impl Print, input: &mut impl io::Read, start: Tally) -> io::Result<Tally> {
     let mut tally = start;
-    let mut left: u32 = 100_000;
-    while left > 0 {
-        left = left - 1;
-        let next = next_line(tally);
+    for _ in 0..100_000u32 {
+        let next = next_line(rt, input, tally)?;
         tally = next.tally;
         if !next.more {
-            left = 0;
+            break;
         }
     }
-    tally
+    Ok(tally)
 }
 
-fn report(name: &[u8], c: Count) {
-    io::write_all(1, name);
-    io::print_decimal(1, c.agree);
-    io::write_all(1, b" of ");
-    io::print_decimal(1, c.vectors);
-    io::write_all(1, b"\n");
+fn report(rt: &impl Print, name: &str, c: Count) -> io::Result<()> {
+    println!(rt; "{name}: {} of {}", c.agree, c.vectors)
 }
 
-fn main() {
-    let t = replay(Tally {
-        rust: none(),
-        differences: none(),
-        standard: none(),
-        marked: none(),
-        wrong: 0,
-    });
+fn main(rt: HostRuntime) -> io::Result<()> {
+    let mut input = rt.reader();
+    let t = replay(
+        &rt,
+        &mut input,
+        Tally {
+            rust: none(),
+            differences: none(),
+            standard: none(),
+            marked: none(),
+            wrong: 0,
+        },
+    )?;
     let rust = t.rust;
     let differences = t.differences;
     let standard = t.standard;
     let marked = t.marked;
-    report(b"the Rust's answers: ", rust);
-    report(b"listed differences from the Rust: ", differences);
-    report(b"frames of the standard: ", standard);
-    report(b"marked rows: ", marked);
-    io::write_all(1, b"wrong: ");
-    io::print_decimal(1, t.wrong);
-    io::write_all(1, b"\n");
+    report(&rt, "the Rust's answers", rust)?;
+    report(&rt, "listed differences from the Rust", differences)?;
+    report(&rt, "frames of the standard", standard)?;
+    report(&rt, "marked rows", marked)?;
+    println!(rt; "wrong: {}", t.wrong)
 }

@@ -9,7 +9,7 @@ use native.Mathlib.Nat.{add-zero}
 use native.Mathlib.Omega.{arith}
 use borrow.Author.Tests.{lt-ltb, le-ltb, eq-eqb, ne_eqb}
 use lib.Dec.{T, eqb, ltb, eqb→eq}
-use lib.ListN.{length, get_or, take, drop, length_append, length-drop}
+use lib.ListN.{length, get_or, take, drop, length-append, length-drop}
 use lib.Seq.{get_or-drop, take-append_seam, drop-append_seam}
 use Rattle.util.specs.Bytes.{bytes_of}
 use Rattle.fcs.specs.declared.FcsCheck.{FcsCheck}
@@ -156,7 +156,7 @@ pub own_checksum_is_right : OwnChecksumIsRight
 unfolding fcs_bytes
 own_checksum_is_right bytes h k =
     let frame = bytes ++ fcs_bytes bytes in
-    let whole : length frame ≡ length bytes + 2 = length_append bytes (fcs_bytes bytes) in
+    let whole : length frame ≡ length bytes + 2 = length-append bytes (fcs_bytes bytes) in
     let n : length frame - 2 ≡ length bytes = omega arith in
     let ends : last_two frame ≡ fcs_bytes bytes = ap (λ (j : ℕ). drop j frame) n ∙ drop-append_seam bytes (fcs_bytes bytes) in
     let begins : rest_of frame ≡ bytes = ap (λ (j : ℕ). take j frame) n ∙ take-append_seam bytes (fcs_bytes bytes) in

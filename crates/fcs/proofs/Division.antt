@@ -6,7 +6,7 @@ use mathlib.Core.Bool.{Bool, true, false, xor}
 use mathlib.Core.List.{List, [], ◌∷◌, ◌++◌, append_assoc}
 use native.Mathlib.Nat.{le_of_suc-le-suc, not-suc-le-zero}
 use native.Mathlib.Omega.{arith}
-use lib.ListN.{length, replicate, length_append}
+use lib.ListN.{length, replicate, length-append}
 use Rattle.fcs.specs.Fcs.{coefficients_below, minus, divide_once, divide, remainder}
 
 abbrev pub zeros : List Bool
@@ -120,4 +120,4 @@ length_divide k (b ∷ bits) (x ∷ dividend) h =
 pub length_remainder : (start bits : List Bool) → length (remainder start bits) ≡ 16
 length_remainder start bits =
     length_divide 16 bits (minus (bits ++ replicate 16 false) start)
-    (length_minus (bits ++ replicate 16 false) start ∙ length_append bits (replicate 16 false))
+    (length_minus (bits ++ replicate 16 false) start ∙ length-append bits (replicate 16 false))

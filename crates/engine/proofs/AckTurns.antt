@@ -158,7 +158,7 @@ module _ (s : State) (pool : List ℕ) where
       go Task.Rx h = refl
 
   request_quiet : (a : Asked) (q : Request) → Quiet (request_of s pool a q)
-  unfolding request_of
+  unfolding request_of taken_of
   request_quiet a q = guard_quiet _ _ (λ ok. taken_quiet a q (free a q ok))
 
   none_quiet : (a : Asked) → Quiet (none_of s a)

@@ -250,33 +250,37 @@ module _ (set : Settings) (pool : List ℕ) where
         go Task.Rx e =
             record { spaced = λ r f. asked_spaced a r f; radio = λ r f. refl; rollback = rx_stays l _; something = refl; request = rw e ((previous_task_of set a).spacing, refl); asks = refl; outbound = refl }
 
+    -- the action that takes the request
+    abbrev asked_action : Asked → Action
+    asked_action a = request_action q (previous_task_of set a).spacing q.task
+
     pub taken_legal : (a : Asked) → Legal (state_at set (Wait.Asking a)) pool (Call.Request q) (taken_of set pool a q)
     unfolding taken_of previous_task_of answers_of N H
-    taken_legal Asked.Idle = enters Left.Off Owed.None N tt refl (accepts _ q.task) (its_buffer q.task) (request_acts Asked.Idle Left.Off) refl
+    taken_legal Asked.Idle = enters Left.Off Owed.None N tt refl (accepts (asked_action Asked.Idle) q.task) (its_buffer q.task) (request_acts Asked.Idle Left.Off) refl
     taken_legal (Asked.AfterWindow p) =
         enters Left.Off (previous_task_of set (Asked.AfterWindow p)).owed N (listening_ended p q refl refl)
         (paid refl refl refl (λ set' h e A. received_right set' pool _ _ e A RxResult.RxWindowEnded refl), refl)
-        (accepts _ q.task) (its_buffer q.task) (request_acts (Asked.AfterWindow p) Left.Off) refl
+        (accepts (asked_action (Asked.AfterWindow p)) q.task) (its_buffer q.task) (request_acts (Asked.AfterWindow p) Left.Off) refl
     taken_legal (Asked.AfterAckWindow p t) =
         enters Left.Off (previous_task_of set (Asked.AfterAckWindow p t)).owed N (window_ended_lem p t refl)
         (paid refl refl refl (λ set' h e A. window_right set' pool _ _ e A t refl refl refl), refl)
-        (accepts _ q.task) (its_buffer q.task) (request_acts (Asked.AfterAckWindow p t) Left.Off) refl
+        (accepts (asked_action (Asked.AfterAckWindow p t)) q.task) (its_buffer q.task) (request_acts (Asked.AfterAckWindow p t) Left.Off) refl
     taken_legal (Asked.Receiving p i) =
-        enters (Left.Receiving p) Owed.None _ tt refl (rx_later p p refl, accepts _ q.task) (ap (λ (l : List ℕ). p.buffer ∷ l) (its_buffer q.task))
+        enters (Left.Receiving p) Owed.None _ tt refl (rx_later p p refl, accepts (asked_action (Asked.Receiving p i)) q.task) (ap (λ (l : List ℕ). p.buffer ∷ l) (its_buffer q.task))
         (request_acts (Asked.Receiving p i) (Left.Receiving p)) refl
     taken_legal (Asked.Sending p) =
         enters (Left.Sending p) Owed.None _ tt refl
-        (tx_later p false _ _ _ _ 1 2 (omega arith) (λ k h. h) refl, accepts _ q.task) (ap (λ (l : List ℕ). p.buffer ∷ l) (its_buffer q.task))
+        (tx_later p false _ _ _ _ 1 2 (omega arith) (λ k h. h) refl, accepts (asked_action (Asked.Sending p)) q.task) (ap (λ (l : List ℕ). p.buffer ∷ l) (its_buffer q.task))
         (request_acts (Asked.Sending p) (Left.Sending p)) refl
     taken_legal (Asked.SendingAck i) =
-        enters Left.SendingAck Owed.None N tt refl (accepts _ q.task) (its_buffer q.task) (request_acts (Asked.SendingAck i) Left.SendingAck) refl
+        enters Left.SendingAck Owed.None N tt refl (accepts (asked_action (Asked.SendingAck i)) q.task) (its_buffer q.task) (request_acts (Asked.SendingAck i) Left.SendingAck) refl
     taken_legal (Asked.ReceivingAck a) =
         enters (Left.ReceivingAck a) Owed.None _ tt refl
-        (tx_later a.task true _ _ _ _ 4 5 (omega arith) (λ k h. h) refl, accepts _ q.task) (ap (λ (l : List ℕ). a.task.buffer ∷ l) (its_buffer q.task))
+        (tx_later a.task true _ _ _ _ 4 5 (omega arith) (λ k h. h) refl, accepts (asked_action (Asked.ReceivingAck a)) q.task) (ap (λ (l : List ℕ). a.task.buffer ∷ l) (its_buffer q.task))
         (request_acts (Asked.ReceivingAck a) (Left.ReceivingAck a)) refl
 
     request_legal : (a : Asked) → Legal (state_at set (Wait.Asking a)) pool (Call.Request q) (request_of (state_at set (Wait.Asking a)) pool a q)
-    unfolding request_of
+    unfolding request_of taken_of
     request_legal a = guard_legal (state_at set (Wait.Asking a)) pool (Call.Request q) _ _ (λ ok. taken_legal a)
 
   none_legal : (a : Asked) → Legal (state_at set (Wait.Asking a)) pool Call.None (none_of (state_at set (Wait.Asking a)) a)

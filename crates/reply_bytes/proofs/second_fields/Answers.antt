@@ -6,12 +6,12 @@ use Rattle.reply_bytes.proofs.second_fields.Goals as goal
 
 pub returns-in-None : goal.returns-in-None
 unfolding second_fields
-returns-in-None c = at_case (second_fields) c.in-None.is c.no_answer.ensures
+returns-in-None c = at_case second_fields c.in-None.is c.no_answer.ensures
 
 pub returns-in-One : goal.returns-in-One
 unfolding second_fields
-returns-in-One c = at_case (second_fields) c.in-One.is c.no_answer-in-One.ensures
+returns-in-One c = at_case second_fields c.in-One.is c.no_answer-in-One.ensures
 
 pub returns-in-Two : goal.returns-in-Two
 unfolding second_fields
-returns-in-Two c = at_case (second_fields) c.in-Two.is c.answer_fields.ensures
+returns-in-Two c = at_case second_fields c.in-Two.is c.answer_fields.ensures

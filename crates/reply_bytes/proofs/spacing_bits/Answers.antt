@@ -15,8 +15,8 @@ overflow_mul-result c = omega (arith, code_fits _ c.ifs_code.ensures)
 
 pub returns-in-None : goal.returns-in-None
 unfolding spacing_bits
-returns-in-None c = (at_case (spacing_bits) c.in-None.is refl, omega arith)
+returns-in-None c = (at_case spacing_bits c.in-None.is refl, omega arith)
 
 pub returns-in-Is : goal.returns-in-Is
 unfolding spacing_bits
-returns-in-Is c = (at_case (spacing_bits) c.in-Is.is (rw c.ifs_code.ensures), omega (arith, code_fits _ c.ifs_code.ensures))
+returns-in-Is c = (at_case spacing_bits c.in-Is.is (rw c.ifs_code.ensures), omega (arith, code_fits _ c.ifs_code.ensures))

@@ -6,12 +6,12 @@ use Rattle.reply_bytes.proofs.stop_fields.Goals as goal
 
 pub returns-in-Now : goal.returns-in-Now
 unfolding stop_fields
-returns-in-Now c = at_case (stop_fields) c.in-Now.is c.action_of.ensures
+returns-in-Now c = at_case stop_fields c.in-Now.is c.action_of.ensures
 
 pub returns-in-At : goal.returns-in-At
 unfolding stop_fields
-returns-in-At c = at_case (stop_fields) c.in-At.is c.action_of-in-At.ensures
+returns-in-At c = at_case stop_fields c.in-At.is c.action_of-in-At.ensures
 
 pub returns-in-Before : goal.returns-in-Before
 unfolding stop_fields
-returns-in-Before c = at_case (stop_fields) c.in-Before.is (rw c.flag_bit.ensures.0 at c.action_of-in-Before.ensures)
+returns-in-Before c = at_case stop_fields c.in-Before.is (rw c.flag_bit.ensures.0 at c.action_of-in-Before.ensures)

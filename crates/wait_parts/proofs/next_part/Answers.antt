@@ -6,12 +6,12 @@ use Rattle.wait_parts.proofs.next_part.Goals as goal
 
 pub returns-in-Tx : goal.returns-in-Tx
 unfolding next_part
-returns-in-Tx c = at_case (next_part) c.in-Tx.is c.tx_part.ensures
+returns-in-Tx c = at_case next_part c.in-Tx.is c.tx_part.ensures
 
 pub returns-in-Rx : goal.returns-in-Rx
 unfolding next_part
-returns-in-Rx c = at_case (next_part) c.in-Rx.is (rw c.rx_task.ensures at c.part_of.ensures)
+returns-in-Rx c = at_case next_part c.in-Rx.is (rw c.rx_task.ensures at c.part_of.ensures)
 
 pub returns-in-Off : goal.returns-in-Off
 unfolding next_part
-returns-in-Off c = at_case (next_part) c.in-Off.is (rw c.no_task.ensures at c.part_of-in-Off.ensures)
+returns-in-Off c = at_case next_part c.in-Off.is (rw c.no_task.ensures at c.part_of-in-Off.ensures)

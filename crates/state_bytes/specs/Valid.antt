@@ -11,7 +11,7 @@ use Rattle.state_bytes.specs.declared.Decoded.{Decoded}
 use Rattle.wait_parts.specs.Parts.{wait_parts_of, PartFit}
 use Rattle.state_bytes.specs.Layout.{written_state, state_at}
 
--- ---- "some state with settings that pass 2 to 4, in_range buffers all different and open tokens different"
+-- ---- "some state with settings that pass 2 to 4, in-range buffers all different and open tokens different"
 
 -- an unanswered request's buffer is in range and none of the own ones (which 4 has in range and different)
 unfoldable pub slot_fits : Settings → Slot → Bool

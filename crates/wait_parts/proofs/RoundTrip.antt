@@ -13,7 +13,6 @@ use Rattle.tasks.specs.declared.Stop.{Stop}
 use Rattle.tasks.specs.declared.Transition.{Transition}
 use Rattle.tasks.specs.declared.Wait.{Wait}
 use Rattle.wait_parts.specs.declared.Part.{Part}
-use Rattle.wait_parts.specs.declared.Parts.{Parts}
 use Rattle.wait_parts.specs.Parts.{no_task, rx_task, part_of, asked_part, left_part, tx_part, next_part, stop_part, transition_parts, wait_parts_of, ifs_at, rx_at, ack_at, asked_table, asked_at, left_table, left_at, next_table, next_at, transition_table, transition_at, stop_table, stop_at, wait_table, wait_at, PartFit, entered_part, WaitReadsBack, WaitFits}
 use Rattle.wait_parts.proofs.Picked.{picked}
 

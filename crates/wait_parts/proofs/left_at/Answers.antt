@@ -1,0 +1,28 @@
+-- `wait_parts::left_at` meets its contract.
+-- Assumes nothing.
+use native.Mathlib.Omega.{arith}
+use mathlib.Core.Path.{refl}
+use Rattle.util.proofs.Tests.{at_case}
+use Rattle.wait_parts.specs.Parts.{left_at}
+use Rattle.wait_parts.proofs.Tables.{left_past}
+use Rattle.wait_parts.proofs.left_at.Goals as goal
+
+pub returns-in-0 : goal.returns-in-0
+unfolding left_at
+returns-in-0 c = at_case (left_at c.args.p) c.in-0.is refl
+
+pub returns-in-1 : goal.returns-in-1
+unfolding left_at
+returns-in-1 c = at_case (left_at c.args.p) c.in-1.is (rw c.rx_at.ensures)
+
+pub returns-in-2 : goal.returns-in-2
+unfolding left_at
+returns-in-2 c = at_case (left_at c.args.p) c.in-2.is refl
+
+pub returns-in-3 : goal.returns-in-3
+unfolding left_at
+returns-in-3 c = at_case (left_at c.args.p) c.in-3.is refl
+
+pub returns-in_default : goal.returns-in_default
+unfolding left_at
+returns-in_default c = rw c.ack_at.ensures (left_past c.args.p c.args.p.code (omega arith))

@@ -10,7 +10,7 @@ out=target/bench/calls
 rounds=200
 for each in driver_c frame_c; do
     if ! [ -f "$folder/lib$each.a" ]; then
-        echo "there is no $folder/lib$each.a; rt staticlib $each builds it"
+        echo "there is no $folder/lib$each.a; tools/staticlib.sh $each builds it"
         exit 1
     fi
 done

@@ -6,7 +6,7 @@ cd "$(dirname "${BASH_SOURCE[0]}")/.."
 folder=${WIDOSHA_LIB_DIR:-target/staticlib}
 out=target/bench/fcs
 if ! [ -f "$folder/libframe_c.a" ]; then
-    echo "there is no $folder/libframe_c.a; rt staticlib frame_c builds it"
+    echo "there is no $folder/libframe_c.a; tools/staticlib.sh frame_c builds it"
     exit 1
 fi
 mkdir -p "$out"

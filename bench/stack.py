@@ -4,13 +4,16 @@ For each function all pushes and subtractions from the stack pointer are added u
 stack or frame pointer is taken where that is more; to this comes the deepest function that it calls or jumps to, with 8 bytes for the
 return address. There is no bound, and the program says so and ends with 1, if a function calls through a pointer, moves the stack
 pointer by a register, calls itself, or calls what is not in the library. A jump through a register is taken for a switch inside the
-function: Rattle has no function pointers. x86-64 only.
+function: the library has no function pointers. What a function of the C library that the compiler calls needs itself is not in the
+bound, and the program names each. x86-64 only.
 
     stack.py LIBRARY
 """
 import re
 import subprocess
 import sys
+
+OF_C = {"bcmp", "memcmp", "memcpy", "memmove", "memset"}
 
 
 class Function:
@@ -93,6 +96,8 @@ def bound(functions, name, above=()):
     """Bytes below the return address."""
     if name in above:
         raise ValueError("%s calls itself" % name)
+    if name in OF_C and name not in functions:
+        return 0
     if name not in functions:
         raise ValueError("%s is not in the library" % name)
     function = functions[name]
@@ -114,6 +119,9 @@ def main(library):
     for name in exported:
         print("%-30s %22d" % (name, worst[name]))
     print("%-30s %22d" % ("largest", max(worst.values())))
+    called = sorted(OF_C & {each for function in functions.values() for each in function.calls})
+    if called:
+        print("without what these of the C library need: %s" % ", ".join(called))
 
 
 main(sys.argv[1])

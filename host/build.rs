@@ -1,5 +1,5 @@
 //! Links the two proved static libraries: the driver service, and what can be told of a frame alone. They are looked for in the folder
-//! that WIDOSHA_LIB_DIR names by its full path, else in ../target/staticlib, where `rt staticlib` puts them.
+//! that WIDOSHA_LIB_DIR names by its full path, else in ../target/staticlib, where `tools/staticlib.sh` puts them.
 use std::env;
 use std::path::PathBuf;
 

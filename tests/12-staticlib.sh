@@ -1,2 +1,2 @@
 # The proved leaves build into a static library.
-exec rt staticlib leaves_c
+exec tools/staticlib.sh leaf_exports

@@ -1,4 +1,2 @@
 # The C functions build into their two static libraries: start and the nine calls, and what can be told of a frame alone.
-set -e
-rt staticlib driver_c
-exec rt staticlib frame_c
+exec tools/staticlib.sh driver_c frame_c

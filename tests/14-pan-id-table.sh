@@ -6,9 +6,9 @@ cd "$(dirname "${BASH_SOURCE[0]}")/../crates/addressing" || exit 2
 # A row of the table as the code should have it: "CASE | CASE => DESTINATION PAN, SOURCE PAN row NUMBER".
 rows=$(sed -nE 's/^    ∣ (.*) ∣$/\1/p' specs/PanIdCompression.antt | sed 's/ ∣ / /g' | awk '
     function bits(word) {
-        return word == "not-present" ? "00" : word == "short" ? "10" : word == "extended" ? "11" : word == "present" ? "10 11" : "?"
+        return word == "not_present" ? "00" : word == "short" ? "10" : word == "extended" ? "11" : word == "present" ? "10 11" : "?"
     }
-    function constant(word) { return word == "present" ? "PRESENT" : word == "not-present" ? "NOT_PRESENT" : "?" }
+    function constant(word) { return word == "present" ? "PRESENT" : word == "not_present" ? "NOT_PRESENT" : "?" }
     {
         split(bits($2), dst)
         split(bits($3), src)

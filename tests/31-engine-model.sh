@@ -4,4 +4,5 @@ if ! command -v python3 >/dev/null; then
     exit 77
 fi
 list=docs/DIFFERENCES.md
-exec python3 -B tests/engine/compare.py target/bin/driver_replay - "$list" 100000 2
+program=$(tools/program.sh driver_replay) || exit 1
+exec python3 -B tests/engine/compare.py "$program" - "$list" 100000 2

@@ -11,8 +11,8 @@ from rule import fcs
 
 # Each text with the pattern of its table; the entries are the numbers of the first group.
 TEXTS = {
-    "crates/fcs/src/table.rt": r"\nconst FCS_TABLE: \[u16; 256\] = \[\n((?: +\d+,\n)+)\];\n",
-    "crates/fcs/specs/Table.antt": r"\nfcsTable =\s+((?:\d+\s+∷\s+)+)\[\]\n",
+    "crates/fcs/src/table.rt": r"\nconst FCS_TABLE: \[u16; 256\] = \[((?:\s+\d+,)+)\s+\];\n",
+    "crates/fcs/specs/Table.antt": r"\nfcs_table =\s+((?:\d+\s+∷\s+)+)\[\]\n",
     "crates/fcs_table/stdout": r"\A((?:\d+\n)+)\Z",
 }
 RULE = [str(fcs(bytes([place]))) for place in range(256)]

@@ -18,6 +18,8 @@ SOURCES = {
 # What docs/LAYOUTS.md says of every function in its first table.
 SLICES = [("state", "slice"), ("reply", "slice"), ("pool", "slice")]
 WIDTHS = ("u8", "u16", "u32", "u64")
+# In Rattle `result` is what a function returns, so no parameter has that name, and the sources have another.
+IN_SOURCE = {"res": "result"}
 LENGTHS = ("STATE", "REPLY", "BUFFER", "INFO")
 ANSWERS = ("YES", "NO", "REFUSED")
 # Where a text states a number; docs/LAYOUTS.md does so in two places, but for the length of a buffer.
@@ -100,7 +102,7 @@ def read_header(text):
 
 def read_source(text):
     text = re.sub(r"//[^\n]*", blank, text)
-    pattern = r'#\[no_mangle\]\s*pub\s+extern\s+"C"\s+fn\s+(\w+)\s*\(([^)]*)\)\s*->\s*(\w+)'
+    pattern = r'#\[unsafe\(no_mangle\)\]\s*pub\s+extern\s+"C"\s+fn\s+(\w+)\s*\(([^)]*)\)\s*->\s*(\w+)'
     found = declarations(text, pattern, 1, 2, 3)
     expect_all(found, len(re.findall(r"no_mangle", text)))
     expect_all(found, len(re.findall(r'\bextern\s+"C"\s+fn\b', text)))
@@ -158,7 +160,7 @@ def in_source(parameter):
     kind = kinds.get(kind, kind)
     if kind not in WIDTHS + tuple(kinds.values()):
         raise Unreadable(parameter)
-    return match.group(1), kind
+    return IN_SOURCE.get(match.group(1), match.group(1)), kind
 
 
 def in_host(parameter):

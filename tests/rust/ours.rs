@@ -1,5 +1,5 @@
-//! The exported functions of crates/leaves_c, and the header reader of crates/frame_c: numbers pass as themselves, a byte slice as
-//! its pointer and its length.
+//! The exported functions of crates/leaf_exports, and the header reader of crates/frame_c: numbers pass as themselves, a byte slice
+//! as its pointer and its length.
 
 use std::ops::Range;
 

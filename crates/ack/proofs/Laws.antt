@@ -9,7 +9,7 @@ use native.Mathlib.Nat.{eq-or-lt_of_le, mod-mod}
 use native.Mathlib.Omega.{arith}
 use borrow.Author.Tests.{eqb-true, le-leb, lt-leb}
 use lib.Bits.{and_mask, and_mod, and_shr}
-use lib.Dec.{eqb, leb}
+use lib.Dec.{eqb}
 use lib.ListN.{length, get_or, set, take, drop, length-set, length-take, length-drop}
 use lib.Seq.{get_or-set_same, get_or-set_other, get_or-take, get_or-drop}
 use Rattle.ack.specs.Ack.{imm_ack_frame_at, seq_nr_set_at, mask_efff, three_bytes, acknowledges}

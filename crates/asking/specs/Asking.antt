@@ -13,7 +13,6 @@ use Rattle.tasks.specs.declared.Next.{Next}
 use Rattle.tasks.specs.declared.Request.{Request}
 use Rattle.tasks.specs.declared.Response.{Response}
 use Rattle.tasks.specs.declared.RxResult.{RxResult}
-use Rattle.tasks.specs.declared.RxTask.{RxTask}
 use Rattle.tasks.specs.declared.NextTaskIfs.{NextTaskIfs}
 use Rattle.tasks.specs.declared.Owed.{Owed}
 use Rattle.tasks.specs.declared.State.{State}

@@ -22,7 +22,7 @@ use Rattle.tasks.specs.declared.Transition.{Transition}
 use Rattle.tasks.specs.declared.Wait.{Wait}
 use Rattle.tasks.specs.Pending.{left_slot, next_slot, asked_slot, stop_slot, transition_slots, pending_of}
 use Rattle.engine.specs.Book.{Book}
-use Rattle.engine.specs.Agreement.{left_standing, next_standing, wait_standing, standing}
+use Rattle.engine.specs.Agreement.{left_standing, next_standing, wait_standing}
 use Rattle.engine.specs.BookClaims.{one, count}
 use Rattle.engine.proofs.Count.{one_self}
 use Rattle.engine.proofs.Standing.{numbers, token, buffer, own}

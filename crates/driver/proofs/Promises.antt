@@ -20,7 +20,7 @@ use Rattle.engine.specs.Refusals.{InOrder, RefusedUnchanged, Unchanged, no_reply
 use Rattle.engine.specs.Actions.{AcceptedActs}
 use Rattle.engine.specs.Book.{is_idle}
 use Rattle.engine.proofs.Actions.{accepted_acts}
-use Rattle.engine.specs.AckTurns.{AckTurns, EveryAckTurnIsDue}
+use Rattle.engine.specs.AckTurns.{EveryAckTurnIsDue}
 use Rattle.engine.proofs.AckTurns.{every_ack_turn_is_due}
 use Rattle.engine.specs.Reasons.{EveryAnswerHasItsReason, EveryQualityIsTold}
 use Rattle.driver.specs.Promises.{Stepped, Started}

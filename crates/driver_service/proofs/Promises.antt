@@ -6,25 +6,25 @@ use mathlib.Core.Bool.{Bool, true, false, cond}
 use mathlib.Core.List.{List, []}
 use lib.Dec.{eqb}
 use lib.ListN.{length}
-use borrow.Author.Tests.{eqb-true, eqb-false, ne_eqb}
+use borrow.Author.Tests.{ne_eqb}
 use Rattle.radio_frame.specs.declared.Settings.{Settings}
 use Rattle.radio_frame.specs.Settings.{settings_refusal}
 use Rattle.tasks.specs.declared.Request.{Request}
 use Rattle.tasks.specs.declared.State.{State}
 use Rattle.engine.specs.declared.Outcome.{Outcome}
-use Rattle.engine.specs.Step.{start_of, start_pool}
+use Rattle.engine.specs.Step.{start_of}
 use Rattle.waiting_line.specs.declared.Line.{Line}
 use Rattle.waiting_line.specs.Line.{requests_of}
 use Rattle.driver.specs.Promises.{Started}
 use Rattle.service.specs.declared.ServiceCall.{ServiceCall}
 use Rattle.service.specs.declared.ServiceOutcome.{ServiceOutcome}
-use Rattle.service.specs.Service.{Served, refused_by, unless_refused, call_of, service_of, service_start}
+use Rattle.service.specs.Service.{refused_by, unless_refused, call_of, service_of, service_start}
 use Rattle.service.specs.Refusals.{ServiceInOrder, ServiceRefusedUnchanged}
 use Rattle.service.proofs.Refusals.{service_in_order, service_refused_unchanged}
 use Rattle.service.specs.Heard.{EveryCallHeard}
 use Rattle.service.proofs.Heard.{every_call_heard}
 use Rattle.service.proofs.History.{service_history}
-use Rattle.driver_service.specs.Promises.{Gives, GivesAll, ServiceStepped, ServiceStarted}
+use Rattle.driver_service.specs.Promises.{GivesAll, ServiceStepped, ServiceStarted}
 
 pub stepped : (s : State) (qs : List Request) (pool : List ℕ) (c : ServiceCall) (r : ServiceOutcome) (written : List ℕ)
     → GivesAll r written (service_of s qs pool c) → ServiceStepped s qs pool c r written

@@ -1,16 +1,14 @@
 -- What a call and a start on four records give, from what they give on the line that the records hold.
 -- Assumes nothing.
 use Prim.Native.Nat.{ℕ}
-use mathlib.Core.Path.{◌≡◌, refl, sym, ◌∙◌, ap}
-use mathlib.Core.Bool.{Bool, true, false, cond}
+use mathlib.Core.Path.{◌≡◌, ◌∙◌}
+use mathlib.Core.Bool.{cond}
 use mathlib.Core.List.{List, [], ◌∷◌}
 use lib.Dec.{eqb}
-use lib.ListN.{length}
 use borrow.Author.Tests.{eq-eqb, ne_eqb}
 use Rattle.radio_frame.specs.declared.Settings.{Settings}
 use Rattle.tasks.specs.declared.Request.{Request}
 use Rattle.tasks.specs.declared.State.{State}
-use Rattle.engine.specs.declared.Outcome.{Outcome}
 use Rattle.waiting_line.specs.declared.Line.{Line}
 use Rattle.waiting_line.specs.declared.Records.{Records}
 use Rattle.waiting_line.specs.declared.RequestRecord.{RequestRecord}

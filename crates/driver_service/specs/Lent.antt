@@ -3,7 +3,6 @@
 use Rattle.std.specs.Prelude.{ℕ, ◌≡◌, cond, List, [], ◌∷◌, eqb, length}
 use Rattle.radio_frame.specs.declared.Settings.{Settings}
 use Rattle.tasks.specs.declared.Asked.{Asked}
-use Rattle.tasks.specs.declared.Request.{Request}
 use Rattle.tasks.specs.declared.State.{State}
 use Rattle.tasks.specs.declared.Wait.{Wait}
 use Rattle.engine.specs.declared.Outcome.{Outcome}

@@ -2,9 +2,9 @@
 -- Assumes nothing.
 use Prim.Native.Nat.{ℕ, suc, ◌+◌, ◌<◌, ◌≤◌}
 use mathlib.Core.Path.{◌≡◌, refl, sym, ◌∙◌, ap}
-use mathlib.Core.Bool.{Bool, true, false, cond, ◌||◌, or_assoc, or-false}
+use mathlib.Core.Bool.{Bool, true, false, ◌||◌, or_assoc, or-false}
 use mathlib.Core.List.{List, [], ◌∷◌, ◌++◌}
-use lib.Dec.{eqb, ltb}
+use lib.Dec.{eqb}
 use lib.ListN.{length}
 use native.Mathlib.Omega.{arith}
 use borrow.Author.Tests.{eq-eqb}
@@ -32,8 +32,8 @@ use Rattle.entered.specs.Entered.{with_spare}
 use Rattle.engine.specs.Book.{requested, is_number, Entry, Radio, Book, entry_of, older, enter, has_token, has_number, take_answers, tell, radio_after, book_step}
 use Rattle.engine.specs.Agreement.{Standing, tx_standing, rx_standing, left_standing, next_standing, asked_standing, stop_standing, transition_standing, wait_standing, standing, AgreesOne, Agrees}
 use Rattle.engine.specs.BookClaims.{tokens, count, calls_allowed, InTime}
-use Rattle.engine.specs.Lists.{earlier, EarlierFirst}
-use Rattle.engine.proofs.Count.{has_count, none_there, still_once}
+use Rattle.engine.specs.Lists.{EarlierFirst}
+use Rattle.engine.proofs.Count.{none_there, still_once}
 use Rattle.engine.proofs.Standing.{numbers, token, buffer, buffers, own, raised, older_agrees, append_agrees, all_informed, Looser, looser_agrees, Holds, told_holds, PaysOne, pay_one, numbers_informed}
 use Rattle.engine.proofs.Radio.{RadioFits}
 

@@ -20,7 +20,6 @@ use Rattle.tasks.specs.declared.Call.{Call}
 use Rattle.tasks.specs.declared.Cause.{Cause}
 use Rattle.tasks.specs.declared.Left.{Left}
 use Rattle.tasks.specs.declared.Next.{Next}
-use Rattle.tasks.specs.declared.Request.{Request}
 use Rattle.tasks.specs.declared.RxResult.{RxResult}
 use Rattle.tasks.specs.declared.RxTask.{RxTask}
 use Rattle.tasks.specs.declared.State.{State}

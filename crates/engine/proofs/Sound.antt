@@ -1,9 +1,9 @@
 -- The claims follow from the invariant.
 -- Assumes nothing.
-use Prim.Native.Nat.{ℕ, ◌+◌, ◌≤◌}
+use Prim.Native.Nat.{ℕ, ◌≤◌}
 use mathlib.Core.Path.{◌≡◌, refl, sym, ◌∙◌, ap}
-use mathlib.Core.Bool.{Bool, true, false, cond, not, ◌||◌}
-use mathlib.Core.List.{List, [], ◌∷◌, ◌++◌}
+use mathlib.Core.Bool.{Bool, true, false, cond, ◌||◌}
+use mathlib.Core.List.{List, ◌++◌}
 use mathlib.Core.Logic.{◌⊎◌, inl, inr, ◌↔◌}
 use lib.Dec.{leb, ltb}
 use lib.ListN.{length}
@@ -16,15 +16,14 @@ use Rattle.tasks.specs.declared.Request.{Request}
 use Rattle.tasks.specs.declared.State.{State}
 use Rattle.tasks.specs.Answers.{answers_of}
 use Rattle.tasks.specs.declared.Owed.{Owed}
-use Rattle.tasks.specs.declared.Answers.{Answers}
 use Rattle.requests.specs.Requests.{token_held, buffer_held, tx_length_unfit}
 use Rattle.moves.specs.declared.Move.{Move}
 use Rattle.engine.specs.Step.{move_of, step_of}
-use Rattle.engine.specs.Refusals.{fits, not_allowed_in, later_refusal, refusal_of, InOrder}
+use Rattle.engine.specs.Refusals.{not_allowed_in, later_refusal, refusal_of, InOrder}
 use Rattle.engine.specs.Book.{Entry, Book, has_token, has_number}
 use Rattle.engine.specs.Agreement.{standing}
 use Rattle.engine.specs.Actions.{Spaced}
-use Rattle.engine.specs.Lists.{Moment, EarlierFirst, RequestFits, Sound}
+use Rattle.engine.specs.Lists.{EarlierFirst, RequestFits, Sound}
 use Rattle.engine.proofs.Count.{has_count}
 use Rattle.engine.proofs.Standing.{own, buffers}
 use Rattle.engine.proofs.Radio.{receives}

@@ -2,7 +2,7 @@
 -- Assumes nothing.
 use Prim.Native.Nat.{ℕ, suc, ◌+◌, ◌≤◌}
 use mathlib.Core.Path.{◌≡◌, refl, sym, ◌∙◌, ap}
-use mathlib.Core.Bool.{Bool, true, false, cond, not, ◌&&◌, ◌||◌, beq}
+use mathlib.Core.Bool.{Bool, true, false, cond, not, beq}
 use mathlib.Core.List.{List, [], ◌∷◌, ◌++◌}
 use lib.Dec.{eqb}
 use lib.ListN.{length}
@@ -13,7 +13,7 @@ use Rattle.radio_frame.specs.declared.Settings.{Settings}
 use Rattle.tasks.specs.declared.Action.{Action}
 use Rattle.tasks.specs.declared.Answer.{Answer}
 use Rattle.tasks.specs.declared.Call.{Call}
-use Rattle.engine.specs.Book.{Entry, Settled, Book, told, told_all, tell, older, answers_transmit, asks, has_number, strike, strike_number, take_answer}
+use Rattle.engine.specs.Book.{Entry, Book, told, told_all, tell, older, answers_transmit, has_number, take_answer}
 use Rattle.engine.specs.Answered.{AnsweredRight, AllAnsweredRight}
 use Rattle.engine.specs.Agreement.{Standing, AgreesOne, Agrees}
 use Rattle.engine.specs.BookClaims.{one, count}

@@ -1,10 +1,10 @@
 -- What a call can come to: one table of waits and calls, from which each property of all calls is proved.
 -- Assumes nothing.
 use Prim.Native.Nat.{ℕ, suc, ◌+◌, ◌<◌}
-use mathlib.Core.Path.{◌≡◌, refl, sym, ◌∙◌, ap}
+use mathlib.Core.Path.{◌≡◌, refl, ◌∙◌, ap}
 use mathlib.Core.Bool.{Bool, true, false, cond, ◌||◌}
 use mathlib.Core.List.{List, [], ◌∷◌, ◌++◌}
-use lib.Dec.{eqb, leb}
+use lib.Dec.{eqb}
 use lib.ListN.{take, drop}
 use native.Mathlib.Omega.{arith}
 use borrow.Author.Tests.{eqb-true}
@@ -45,7 +45,7 @@ use Rattle.tasks.specs.Answers.{to_tx, to_rx, answers_of}
 use Rattle.requests.specs.Requests.{allowed_of}
 use Rattle.results.specs.Results.{leave_off, leave_receiving, leave_sending, leave_sending_ack, ack_response, ack_received, leave_receiving_ack, leave_of}
 use Rattle.moves.specs.declared.Move.{Move}
-use Rattle.moves.specs.Move.{refused_of, accepted_of, guarded_of}
+use Rattle.moves.specs.Move.{refused_of, guarded_of}
 use Rattle.asking.specs.Asking.{previous_task_of, tx_spacing, next_of, request_action, taken_of, request_of, none_of, asking_of}
 use Rattle.entered.specs.Entered.{sending_move, arrival_of, request_entered, with_spare, rearm_entered, ack_turn_entered, ack_wait_started, ack_wait_entered, entered_of}
 use Rattle.entering.specs.Entering.{then_error, request_fell_back, fell_back_of, off_rolled_back, request_rolled_back, rolled_back_of, entering_of}
@@ -54,7 +54,7 @@ use Rattle.stopping.specs.Stopping.{frame_stopped, outbound_stopped, ack_failed,
 use Rattle.reading.specs.Reading.{requested, number_to_acknowledge, rearm_move, receive_move, header_move_of, header_of, reading_of}
 use Rattle.engine.specs.Step.{wait_move, move_of}
 use Rattle.engine.specs.Refusals.{goes_off, rollback_fits, fits}
-use Rattle.engine.specs.Book.{Progress, frame_started, is_number, Entry, Settled, Radio, Book, answers_transmit, enter}
+use Rattle.engine.specs.Book.{Progress, frame_started, is_number, Entry, Radio, Book, answers_transmit, enter}
 use Rattle.engine.specs.Answered.{Tells, is_ack, AnsweredRight}
 use Rattle.engine.specs.Reasons.{Reason, listening_ended, received, received_acknowledged, failed, sent, acknowledged, unacknowledged, window_ended_lem, Reasons}
 use Rattle.engine.specs.Agreement.{Standing, tx_standing, rx_standing, awaiting, left_standing, next_standing, wait_standing, standing, AgreesOne}

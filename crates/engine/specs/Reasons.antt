@@ -2,7 +2,7 @@
 -- every state, every answer names a request that the state holds and has its reason. How the state came to hold it is the book's
 -- matter (Answered.antt).
 -- Assumes nothing.
-use Rattle.std.specs.Prelude.{ℕ, ◌≡◌, Bool, true, false, cond, ◌⊎◌, List}
+use Rattle.std.specs.Prelude.{ℕ, ◌≡◌, true, false, cond, List}
 use Rattle.radio_frame.specs.declared.AckSeqNum.{AckSeqNum}
 use Rattle.phy.specs.declared.Ifs.{Ifs}
 use Rattle.tasks.specs.declared.Answer.{Answer}

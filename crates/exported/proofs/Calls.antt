@@ -2,7 +2,7 @@
 -- Assumes nothing.
 use Prim.Native.Nat.{ℕ}
 use mathlib.Core.Path.{◌≡◌, refl, sym, ◌∙◌}
-use mathlib.Core.Bool.{Bool, true, false, cond}
+use mathlib.Core.Bool.{Bool, true, false}
 use mathlib.Core.List.{List}
 use lib.Dec.{eqb}
 use lib.ListN.{length}
@@ -17,7 +17,7 @@ use Rattle.call_codes.specs.declared.ExportedCall.{ExportedCall}
 use Rattle.call_codes.specs.declared.StartNumbers.{StartNumbers}
 use Rattle.slices.specs.Slices.{slices_fit, form_ok, if_accepted}
 use Rattle.slices.specs.Inner.{read_of, Finished}
-use Rattle.slices.proofs.Slices.{Settled, settled, reads, form_lengths}
+use Rattle.slices.proofs.Slices.{settled, reads, form_lengths}
 use Rattle.outcomes.specs.Outcomes.{unknown_of, made_outcome, made_pool, begun_outcome, begun_pool}
 use Rattle.outcomes.proofs.Outcomes.{made_unchanged, made_refusal, begun_unchanged}
 use Rattle.byte_calls.specs.Calls.{exported_refusal, call_result, call_state, call_reply, call_pool, Called, start_result, start_state, start_reply, start_pool_after}

@@ -2,8 +2,7 @@
 -- Assumes nothing.
 use Prim.Native.Nat.{ℕ}
 use mathlib.Core.Path.{◌≡◌, refl, sym}
-use mathlib.Core.Logic.{◌↔◌}
-use mathlib.Core.Bool.{Bool, true, false, true≢false, cond, ◌&&◌, ◌||◌}
+use mathlib.Core.Bool.{Bool, true, false, true≢false, cond, ◌||◌}
 use mathlib.Core.List.{List, [], ◌∷◌}
 use lib.Dec.{leb, eqb}
 use borrow.Author.Tests.{leb-false, lt-leb, eqb-false, ne_eqb}
@@ -12,7 +11,7 @@ use Rattle.tasks.specs.declared.State.{State}
 use Rattle.requests.specs.Requests.{token_held, buffer_held, tx_length_unfit, arrival_refusal}
 use Rattle.waiting_line.specs.Line.{any_passes, has_token, has_buffer}
 use Rattle.state_bytes.proofs.Same.{and_left, and_right}
-use Rattle.line_bytes.specs.Valid.{request_fits, line_fits, Every, Different, FitsInWords, FitsExactly}
+use Rattle.line_bytes.specs.Valid.{request_fits, line_fits, Every, FitsInWords, FitsExactly}
 
 -- no refusal is met exactly if no test is true
 abbrev refusal : Bool → Bool → Bool → Bool → Bool → Bool → ℕ

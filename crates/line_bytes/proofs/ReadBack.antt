@@ -3,11 +3,11 @@
 use Prim.Native.Nat.{ℕ, ◌+◌, ◌^◌, ◌<◌}
 use mathlib.Core.Path.{◌≡◌, refl, ◌∙◌, ap}
 use mathlib.Core.Bool.{Bool, true, false, cond}
-use mathlib.Core.List.{List, [], ◌∷◌, ◌++◌}
+use mathlib.Core.List.{List, ◌++◌}
 use lib.Dec.{eqb}
 use lib.ListN.{get_or}
 use native.Mathlib.Omega.{arith}
-use Rattle.util.specs.Bytes.{flag_number, number_at, AllBytes}
+use Rattle.util.specs.Bytes.{number_at, AllBytes}
 use Rattle.util.proofs.Numbers.{read_back, byte_at, fits_bytes}
 use Rattle.tasks.specs.declared.Request.{Request}
 use Rattle.tasks.specs.declared.State.{State}

@@ -1,11 +1,9 @@
 -- The frame record as numbers beside the pool: document 01, "Settings and pool" and "Calls"; radio_frame.rs.
 -- Assumes nothing.
-use Rattle.std.specs.Prelude.{ℕ, ◌+◌, ◌-◌, ◌*◌, ◌≤◌, ◌<◌, Bool, cond, not, ◌&&◌, List, ◌≡◌, ltb, leb, length, get_or, take, drop}
-use Rattle.frame_control.specs.declared.FrameControl.{FrameControl}
+use Rattle.std.specs.Prelude.{ℕ, ◌+◌, ◌-◌, ◌*◌, ◌≤◌, ◌<◌, cond, not, ◌&&◌, List, ◌≡◌, ltb, leb, length, get_or, take, drop}
 use Rattle.frame_control.specs.FrameControl.{frame_control_of}
 use Rattle.phy.specs.Phy.{phy_max_packet_size}
 use Rattle.radio_frame.specs.declared.Settings.{Settings}
-use Rattle.radio_frame.specs.declared.Range.{Range}
 use Rattle.radio_frame.specs.declared.RadioFrame.{RadioFrame}
 use Rattle.radio_frame.specs.declared.AckSeqNum.{AckSeqNum}
 use Rattle.radio_frame.specs.Settings.{buffer_length, settings_refusal}

@@ -1,10 +1,9 @@
 -- Lists of arrivals: the earliest that passes a test, those that stay behind, and what both hold.
 -- Assumes nothing.
-use Prim.Native.Nat.{ℕ, suc, ◌+◌, ◌≤◌, ◌<◌}
+use Prim.Native.Nat.{ℕ, suc, ◌+◌}
 use mathlib.Core.Path.{◌≡◌, refl, sym, ◌∙◌, ap}
-use mathlib.Core.Bool.{Bool, true, false, cond, not, ◌&&◌, ◌||◌, beq}
+use mathlib.Core.Bool.{Bool, true, false, cond, ◌||◌}
 use mathlib.Core.List.{List, [], ◌∷◌, ◌++◌}
-use mathlib.Core.Logic.{◌⊎◌, inl, inr}
 use lib.Dec.{eqb}
 use lib.ListN.{length}
 use native.Mathlib.Omega.{arith}
@@ -14,7 +13,7 @@ use Rattle.engine.specs.BookClaims.{one, count}
 use Rattle.waiting_line.specs.declared.Found.{Found}
 use Rattle.waiting_line.specs.Line.{has_token, has_buffer, any_passes, earliest_of, without_earliest}
 use Rattle.service.specs.LineBook.{Arrival, earliest_in, others_in}
-use Rattle.service.specs.LineClaims.{waiting_tokens, waiting_buffers, places_of, AllOf, Rising}
+use Rattle.service.specs.LineClaims.{waiting_tokens, waiting_buffers}
 use Rattle.service.specs.Lists.{requests_in}
 
 -- ---- What the arrivals' requests are

@@ -3,11 +3,11 @@
 use Prim.Native.Nat.{ℕ, ◌+◌, ◌≤◌, ◌<◌}
 use mathlib.Core.Path.{◌≡◌, refl, sym, ◌∙◌, ap}
 use mathlib.Core.Bool.{Bool, true, false, cond}
-use mathlib.Core.List.{List, [], ◌∷◌, ◌++◌}
+use mathlib.Core.List.{List, [], ◌∷◌}
 use lib.Dec.{eqb}
 use lib.ListN.{length}
 use native.Mathlib.Omega.{arith}
-use borrow.Author.Tests.{eqb-true, eqb-false, ne_eqb}
+use borrow.Author.Tests.{eqb-true, eqb-false}
 use Rattle.radio_frame.specs.declared.Settings.{Settings}
 use Rattle.radio_frame.specs.Settings.{settings_refusal, Fit}
 use Rattle.radio_frame.proofs.Laws.{zero_if_fit}
@@ -22,23 +22,22 @@ use Rattle.tasks.specs.declared.Timestamp.{Timestamp}
 use Rattle.tasks.specs.declared.Wait.{Wait}
 use Rattle.requests.specs.Requests.{allowed_of}
 use Rattle.asking.specs.Asking.{taken_of}
-use Rattle.engine.specs.Step.{step_of, step_pool, start_of}
+use Rattle.engine.specs.Step.{step_of, start_of}
 use Rattle.engine.specs.Refusals.{RefusedUnchanged}
-use Rattle.engine.specs.Asks.{Asks, no_ask, ask, outbound_after}
+use Rattle.engine.specs.Asks.{Asks, ask, outbound_after}
 use Rattle.engine.specs.Actions.{asks_of}
-use Rattle.engine.specs.Book.{Entry, Book, older, requests_entered, held_entered, start_book}
-use Rattle.engine.specs.BookClaims.{one, count, tokens}
+use Rattle.engine.specs.Book.{Entry, older, requests_entered, held_entered}
+use Rattle.engine.specs.BookClaims.{one}
 use Rattle.engine.proofs.Radio.{receives}
-use Rattle.engine.proofs.Kept.{Kept, state_at}
+use Rattle.engine.proofs.Kept.{state_at}
 use Rattle.engine.proofs.Refusals.{refused_unchanged}
 use Rattle.engine.proofs.History.{own_differ, started, accepted_start}
-use Rattle.waiting_line.specs.declared.Found.{Found}
-use Rattle.waiting_line.specs.Line.{allows, is_tx, earliest_of, without_earliest, names_tx}
+use Rattle.waiting_line.specs.Line.{allows, is_tx, earliest_of, names_tx}
 use Rattle.service.specs.declared.ServiceCall.{ServiceCall}
-use Rattle.service.specs.Service.{Served, refused_by, wait_given, line_now, unless_refused, arrive_refusal, arrive_of, withdraw_refusal, withdraw_of, take_of, request_of, allowed_waits, none_of, outbound_seen_of, call_of, service_of, service_start}
+use Rattle.service.specs.Service.{Served, refused_by, wait_given, unless_refused, arrive_refusal, arrive_of, withdraw_refusal, withdraw_of, take_of, request_of, allowed_waits, none_of, outbound_seen_of, call_of, service_of, service_start}
 use Rattle.service.specs.LineBook.{Arrival, LineBook, start_line_book, earliest_in, others_in, allowed_by, leaving, staying, named_after, takes, passes, accepts, line_book_step}
 use Rattle.service.specs.Lists.{ServiceCallMade, ServiceMoment, after_call, after, requests_in, PoolFits, ServiceSound, AlwaysServed}
-use Rattle.service.proofs.Arrivals.{Search, none, found_one, search_in, NoneIn, OneIn}
+use Rattle.service.proofs.Arrivals.{Search, none, found_one, search_in, OneIn}
 use Rattle.service.proofs.Kept.{NamedFits, LineKept, tokens_older}
 use Rattle.service.proofs.Steps.{EntersNone, passes_keeps, arrive_keeps, withdraw_keeps, takes_keeps}
 use Rattle.service.proofs.Sound.{book_sound, arrives_by_book, withdraws_by_book, request_is_by_book, request_does, none_is_by_book, seen_is_by_book, settings_pass, named_leave, service_replies, service_turns}

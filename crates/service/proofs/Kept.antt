@@ -1,41 +1,34 @@
 -- What state, line and book say of each other after every call, and that each call keeps it.
 -- Assumes nothing.
-use Prim.Native.Nat.{ℕ, suc, ◌+◌, ◌≤◌, ◌<◌}
+use Prim.Native.Nat.{ℕ, ◌+◌, ◌≤◌, ◌<◌}
 use mathlib.Core.Path.{◌≡◌, refl, sym, ◌∙◌, ap}
-use mathlib.Core.Bool.{Bool, true, false, cond, not, ◌&&◌, ◌||◌}
+use mathlib.Core.Bool.{Bool, true, false, cond, ◌||◌}
 use mathlib.Core.List.{List, [], ◌∷◌, ◌++◌}
-use lib.Dec.{eqb, ltb, leb}
+use lib.Dec.{eqb, ltb}
 use lib.ListN.{length}
 use native.Mathlib.Omega.{arith}
-use borrow.Author.Tests.{eqb-true, eqb-false, leb-false, ltb-true}
+use borrow.Author.Tests.{eqb-false}
 use Rattle.radio_frame.specs.declared.Settings.{Settings}
-use Rattle.radio_frame.specs.Settings.{settings_refusal}
 use Rattle.tasks.specs.declared.Action.{Action}
-use Rattle.tasks.specs.declared.Answer.{Answer}
 use Rattle.tasks.specs.declared.Answers.{Answers}
-use Rattle.tasks.specs.declared.Asked.{Asked}
 use Rattle.tasks.specs.declared.Call.{Call}
 use Rattle.tasks.specs.declared.Request.{Request}
 use Rattle.tasks.specs.declared.Reply.{Reply}
 use Rattle.tasks.specs.declared.State.{State}
-use Rattle.tasks.specs.declared.Wait.{Wait}
-use Rattle.requests.specs.Requests.{token_held, buffer_held, tx_length_unfit, arrival_refusal, allowed_of}
+use Rattle.requests.specs.Requests.{token_held, buffer_held, tx_length_unfit}
 use Rattle.moves.specs.declared.Move.{Move}
-use Rattle.asking.specs.Asking.{taken_of}
-use Rattle.engine.specs.Step.{move_of, step_of}
-use Rattle.engine.specs.Asks.{Asks, no_ask, ask, asks_after, outbound_after}
+use Rattle.engine.specs.Asks.{asks_after, outbound_after}
 use Rattle.engine.specs.Actions.{asks_of, outbound_open}
 use Rattle.engine.specs.Agreement.{standing}
-use Rattle.engine.specs.Book.{Entry, Book, older, enter, strike, strike_number, take_answer, take_answers, told_all, tell, book_step, requests_entered, held_entered, has_token, has_number}
+use Rattle.engine.specs.Book.{Entry, Book, older, enter, strike, strike_number, take_answers, told_all, book_step, requests_entered, held_entered, has_token, has_number}
 use Rattle.engine.specs.BookClaims.{one, count, tokens}
-use Rattle.engine.proofs.Count.{has_count, none_there, still_once, one_self, one_le}
+use Rattle.engine.proofs.Count.{has_count}
 use Rattle.engine.proofs.Standing.{own, buffers}
-use Rattle.engine.proofs.Kept.{Kept, After, token_has, held_has, fits_token, count_own}
-use Rattle.engine.proofs.Table.{Legal, refuse, stay, swap, enters, passed, neither, step_legal, taken_legal}
-use Rattle.engine.proofs.History.{step_keeps}
+use Rattle.engine.proofs.Kept.{Kept, token_has, held_has, fits_token, count_own}
+use Rattle.engine.proofs.Table.{Legal, refuse, stay, swap, enters}
 use Rattle.waiting_line.specs.Line.{is_tx}
-use Rattle.service.specs.LineBook.{Arrival, LineBook, earliest_in, others_in, allowed_by}
-use Rattle.service.specs.LineClaims.{waiting_tokens, waiting_buffers, held_in}
+use Rattle.service.specs.LineBook.{Arrival, LineBook, earliest_in}
+use Rattle.service.specs.LineClaims.{waiting_tokens, waiting_buffers}
 use Rattle.service.specs.Lists.{requests_in}
 use Rattle.service.proofs.Order.{Ordered}
 

@@ -13,7 +13,7 @@ use Rattle.tasks.specs.declared.Task.{Task}
 use Rattle.tasks.specs.declared.Timestamp.{Timestamp}
 use Rattle.requests.specs.Requests.{timed, start_allowed, not_allowed}
 use Rattle.engine.specs.Asks.{Asks, no_ask, ask, listens}
-use Rattle.waiting_line.specs.Line.{allows, is_transmit}
+use Rattle.waiting_line.specs.Line.{is_transmit}
 use Rattle.service.specs.LineBook.{Arrival, earliest_in, others_in, allowed_by}
 use Rattle.service.specs.LineClaims.{of_kind, places_of, AllOf, Rising}
 

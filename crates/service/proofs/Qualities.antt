@@ -2,12 +2,11 @@
 -- none and answer with none.
 -- Assumes nothing.
 use Prim.Native.Nat.{ℕ}
-use mathlib.Core.Path.{◌≡◌, refl, ap}
+use mathlib.Core.Path.{◌≡◌, refl}
 use mathlib.Core.Bool.{Bool, true, false, cond}
 use mathlib.Core.List.{List}
 use lib.Dec.{eqb}
 use lib.ListN.{length}
-use Rattle.radio_frame.specs.declared.Settings.{Settings}
 use Rattle.radio_frame.specs.Settings.{settings_refusal}
 use Rattle.tasks.specs.declared.Asked.{Asked}
 use Rattle.tasks.specs.declared.Call.{Call}
@@ -17,12 +16,12 @@ use Rattle.tasks.specs.declared.Wait.{Wait}
 use Rattle.tasks.specs.Answers.{answers_of}
 use Rattle.requests.specs.Requests.{allowed_of}
 use Rattle.asking.specs.Asking.{previous_task_of, taken_of}
-use Rattle.engine.specs.Qualities.{call_with, answers_with_of, QualityDecidesNothing}
+use Rattle.engine.specs.Qualities.{call_with, QualityDecidesNothing}
 use Rattle.engine.proofs.Qualities.{quality_decides_nothing}
 use Rattle.waiting_line.specs.declared.Found.{Found}
 use Rattle.waiting_line.specs.Line.{allows, is_tx, earliest_of, names_tx}
 use Rattle.service.specs.declared.ServiceCall.{ServiceCall}
-use Rattle.service.specs.Service.{Served, refused_by, wait_given, line_now, unless_refused, arrive_refusal, arrive_of, withdraw_refusal, withdraw_of, take_of, request_of, allowed_waits, none_of, outbound_seen_of, call_of, service_of}
+use Rattle.service.specs.Service.{Served, refused_by, wait_given, unless_refused, arrive_refusal, arrive_of, withdraw_refusal, withdraw_of, take_of, request_of, allowed_waits, none_of, outbound_seen_of, call_of, service_of}
 use Rattle.service.specs.Qualities.{service_call_with, served_with, QualityDecidesNoCall}
 
 module _ (f : ℕ → ℕ) (s : State) (qs : List Request) (pool : List ℕ) where

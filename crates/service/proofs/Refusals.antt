@@ -1,19 +1,18 @@
 -- The first demand: the calls refuse by the documents' conditions, in their order, and a refused call changes nothing.
 -- Assumes nothing.
-use Prim.Native.Nat.{ℕ, ◌<◌}
-use mathlib.Core.Path.{◌≡◌, refl, sym, ◌∙◌, ap}
+use Prim.Native.Nat.{ℕ}
+use mathlib.Core.Path.{◌≡◌, refl, sym, ◌∙◌}
 use mathlib.Core.Bool.{Bool, true, false, cond, not, ◌&&◌, ◌||◌}
 use mathlib.Core.List.{List, [], ◌∷◌}
 use lib.Dec.{eqb}
 use lib.ListN.{length}
 use native.Mathlib.Omega.{arith}
-use borrow.Author.Tests.{eqb-true, eqb-false}
+use borrow.Author.Tests.{eqb-true}
 use Rattle.radio_frame.specs.Settings.{pool_unfit, rooms_unfit, own_buffers_unfit, settings_refusal}
 use Rattle.tasks.specs.declared.Asked.{Asked}
 use Rattle.tasks.specs.declared.Call.{Call}
 use Rattle.tasks.specs.declared.Request.{Request}
 use Rattle.tasks.specs.declared.State.{State}
-use Rattle.tasks.specs.declared.Timestamp.{Timestamp}
 use Rattle.tasks.specs.declared.Wait.{Wait}
 use Rattle.requests.specs.Requests.{allowed_of, arrival_refusal}
 use Rattle.engine.specs.Step.{step_of}
@@ -22,9 +21,9 @@ use Rattle.engine.proofs.Refusals.{in_order, refused_unchanged}
 use Rattle.waiting_line.specs.declared.Found.{Found}
 use Rattle.waiting_line.specs.Line.{allows, is_tx, any_passes, earliest_of, names_tx}
 use Rattle.service.specs.declared.ServiceCall.{ServiceCall}
-use Rattle.service.specs.Service.{Served, refused_by, wait_given, line_now, unless_refused, arrive_refusal, arrive_of, is_named, withdraw_refusal, withdraw_of, take_of, request_of, allowed_waits, none_of, outbound_seen_of, call_of, service_of}
+use Rattle.service.specs.Service.{Served, refused_by, unless_refused, arrive_refusal, arrive_of, withdraw_refusal, withdraw_of, take_of, request_of, allowed_waits, none_of, outbound_seen_of, call_of, service_of}
 use Rattle.service.proofs.Cases.{Case, refused, on_line, given, taken, service_case}
-use Rattle.service.specs.Refusals.{is_asking, service_fits, service_later, service_refusal, ServiceUnchanged, ServiceInOrder, ServiceRefusedUnchanged}
+use Rattle.service.specs.Refusals.{is_asking, service_fits, service_later, service_refusal, ServiceInOrder, ServiceRefusedUnchanged}
 
 module _ (s : State) (qs : List Request) (pool : List ℕ) where
   -- ---- The refusal of what is done unless it is refused

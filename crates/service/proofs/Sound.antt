@@ -1,10 +1,10 @@
 -- The claims follow from what state, line and book say of each other.
 -- Assumes nothing.
-use Prim.Native.Nat.{ℕ, suc, ◌+◌, ◌≤◌, ◌<◌}
+use Prim.Native.Nat.{ℕ, suc, ◌+◌, ◌≤◌}
 use mathlib.Core.Path.{◌≡◌, refl, sym, ◌∙◌, ap}
 use mathlib.Core.Bool.{Bool, true, false, cond, not, ◌&&◌, ◌||◌, or_assoc}
 use mathlib.Core.List.{List, [], ◌∷◌, ◌++◌}
-use lib.Dec.{eqb, leb}
+use lib.Dec.{eqb}
 use lib.ListN.{length}
 use native.Mathlib.Omega.{arith}
 use borrow.Author.Tests.{eqb-false}
@@ -13,7 +13,7 @@ use Rattle.radio_frame.specs.Settings.{settings_refusal, Fit}
 use Rattle.radio_frame.proofs.Laws.{zero_if_fit}
 use Rattle.entered.specs.Entered.{with_spare}
 use Rattle.engine.proofs.Count.{one_self}
-use Rattle.engine.proofs.Standing.{own, buffers}
+use Rattle.engine.proofs.Standing.{buffers}
 use Rattle.tasks.specs.declared.Action.{Action}
 use Rattle.tasks.specs.declared.Asked.{Asked}
 use Rattle.tasks.specs.declared.Call.{Call}
@@ -22,7 +22,7 @@ use Rattle.tasks.specs.declared.Starts.{Starts}
 use Rattle.tasks.specs.declared.State.{State}
 use Rattle.tasks.specs.declared.Timestamp.{Timestamp}
 use Rattle.tasks.specs.declared.Wait.{Wait}
-use Rattle.requests.specs.Requests.{token_held, buffer_held, tx_length_unfit, allow, allowed_of}
+use Rattle.requests.specs.Requests.{buffer_held, allow, allowed_of}
 use Rattle.asking.specs.Asking.{taken_of}
 use Rattle.moves.specs.declared.Move.{Move}
 use Rattle.engine.specs.Step.{written_by}
@@ -31,10 +31,9 @@ use Rattle.engine.specs.Asks.{Asks, no_ask, ask, listens}
 use Rattle.engine.specs.Refusals.{fits, none_fits}
 use Rattle.engine.specs.Actions.{TaskDone, asks_of, outbound_open, Spaced}
 use Rattle.engine.specs.Agreement.{standing}
-use Rattle.engine.specs.Book.{Book, Radio, has_number}
+use Rattle.engine.specs.Book.{Radio, has_number}
 use Rattle.engine.specs.BookClaims.{one, count, tokens}
 use Rattle.engine.specs.Lists.{EarlierFirst}
-use Rattle.engine.proofs.Radio.{receives}
 use Rattle.engine.proofs.Kept.{in_time, limits, count_own}
 use Rattle.engine.proofs.Table.{Legal}
 use Rattle.engine.proofs.History.{Fresh}
@@ -49,7 +48,7 @@ use Rattle.service.specs.Refusals.{is_asking, service_fits, service_later}
 use Rattle.service.specs.LineBook.{Arrival, LineBook, earliest_in, allowed_by, leaving}
 use Rattle.service.specs.LineClaims.{waiting_tokens, waiting_buffers, held_in, LineBookSound}
 use Rattle.service.specs.Lists.{arrive_by_book, named_has, withdraw_by_book, taken_or, request_by_book, none_asked, none_by_book, named_by, outbound_by_book, wait_call, requests_in}
-use Rattle.service.proofs.Arrivals.{length_is, token_waits, buffer_waits, Search, none, found_one, search_in, OneIn}
+use Rattle.service.proofs.Arrivals.{length_is, token_waits, buffer_waits, Search, none, found_one, search_in}
 use Rattle.service.proofs.Kept.{NamedFits, LineKept, token_by_book, buffer_by_book}
 use Rattle.service.proofs.Cases.{OnLine, arrives, withdraws, Case, refused, on_line, given, taken, service_case}
 use Rattle.service.proofs.Heard.{head_is, one_not_none, taken_told, every_call_heard}

@@ -4,10 +4,10 @@ use Prim.Native.Nat.{ℕ, suc, ◌+◌, ◌≤◌, ◌<◌}
 use mathlib.Core.Path.{◌≡◌, refl, sym, ◌∙◌, ap}
 use mathlib.Core.Bool.{Bool, true, false, cond, not, ◌&&◌, ◌||◌}
 use mathlib.Core.List.{List, [], ◌∷◌, ◌++◌}
-use lib.Dec.{eqb, ltb, leb}
+use lib.Dec.{eqb, leb}
 use lib.ListN.{length}
 use native.Mathlib.Omega.{arith}
-use borrow.Author.Tests.{eqb-true, eqb-false, leb-false}
+use borrow.Author.Tests.{eqb-true, leb-false}
 use Rattle.radio_frame.specs.declared.Settings.{Settings}
 use Rattle.tasks.specs.declared.Asked.{Asked}
 use Rattle.tasks.specs.declared.Call.{Call}
@@ -21,21 +21,21 @@ use Rattle.moves.specs.declared.Move.{Move}
 use Rattle.asking.specs.Asking.{taken_of}
 use Rattle.engine.specs.Step.{move_of, step_of}
 use Rattle.engine.specs.Refusals.{no_reply}
-use Rattle.engine.specs.Asks.{Asks, no_ask, ask, asks_after, outbound_after}
-use Rattle.engine.specs.Actions.{asks_of, outbound_open}
-use Rattle.engine.specs.Book.{Entry, Book, older, entry_of, requests_entered, held_entered, book_step, has_number}
+use Rattle.engine.specs.Asks.{ask, outbound_after}
+use Rattle.engine.specs.Actions.{outbound_open}
+use Rattle.engine.specs.Book.{Entry, Book, older, entry_of, requests_entered, held_entered, book_step}
 use Rattle.engine.specs.BookClaims.{one, count, tokens}
-use Rattle.engine.proofs.Count.{has_count, none_there, one_self, one_le}
-use Rattle.engine.proofs.Kept.{Kept, After, state_at}
+use Rattle.engine.proofs.Count.{none_there, one_self}
+use Rattle.engine.proofs.Kept.{state_at}
 use Rattle.engine.proofs.Table.{Legal, passed, neither, step_legal, taken_legal}
 use Rattle.engine.proofs.History.{Fresh, legal_keeps}
 use Rattle.waiting_line.specs.Line.{allows, has_token, has_buffer, is_tx, any_passes, earliest_of, without_earliest, is_token}
-use Rattle.service.specs.LineBook.{Arrival, LineBook, earliest_in, others_in, allowed_by, arrives, withdraws, named_after, told, takes, passes}
+use Rattle.service.specs.LineBook.{Arrival, LineBook, others_in, arrives, withdraws, named_after, told, passes}
 use Rattle.service.specs.LineClaims.{waiting_tokens, waiting_buffers}
 use Rattle.service.specs.Lists.{requests_in}
 use Rattle.service.specs.Service.{arrive_refusal, withdraw_refusal, is_named}
 use Rattle.service.proofs.Arrivals.{others_are, one_more_is, length_is, token_waits, buffer_waits, OneIn, Search, none, found_one, search_in, tokens_end, buffers_end, length_end, earliest_end, earliest_others}
-use Rattle.service.proofs.Order.{Ordered, arrival_ordered, leaving_ordered, withdrawal_ordered}
+use Rattle.service.proofs.Order.{arrival_ordered, leaving_ordered, withdrawal_ordered}
 use Rattle.service.proofs.Kept.{held_fewer, tokens_fewer, tokens_older, set_same, Fit, AllFit, NamedFits, LineKept, has_tokens, token_by_book, buffer_by_book, none_has, asked_next}
 
 -- ---- A call that the wait is given, and no request leaves

@@ -1,14 +1,14 @@
 -- No dead end: in every wait the call that `way_on_of` names is accepted.
 -- Assumes nothing.
-use Prim.Native.Nat.{ℕ, ◌+◌, ◌^◌, ◌≤◌, ◌<◌}
+use Prim.Native.Nat.{ℕ, ◌+◌, ◌≤◌, ◌<◌}
 use mathlib.Core.Path.{◌≡◌, refl, sym, ◌∙◌, ap}
-use mathlib.Core.Bool.{Bool, true, false, cond, not, ◌&&◌, ◌||◌}
+use mathlib.Core.Bool.{Bool, true, false, cond, not, ◌||◌}
 use mathlib.Core.List.{List, [], ◌∷◌}
 use mathlib.Core.Logic.{◌⊎◌, inl, inr}
 use lib.Dec.{eqb, ltb, leb}
 use lib.ListN.{length}
 use native.Mathlib.Omega.{arith}
-use borrow.Author.Tests.{eqb-true, eqb-false, ne_eqb, le-ltb, lt-leb}
+use borrow.Author.Tests.{eqb-true, ne_eqb, le-ltb, lt-leb}
 use Rattle.radio_frame.specs.declared.Settings.{Settings}
 use Rattle.radio_frame.specs.Settings.{settings_refusal, Fit}
 use Rattle.radio_frame.proofs.Laws.{zero_if_fit}
@@ -17,17 +17,15 @@ use Rattle.tasks.specs.declared.Asked.{Asked}
 use Rattle.tasks.specs.declared.Call.{Call}
 use Rattle.tasks.specs.declared.Left.{Left}
 use Rattle.tasks.specs.declared.Request.{Request}
-use Rattle.tasks.specs.declared.RxResult.{RxResult}
 use Rattle.tasks.specs.declared.RxTask.{RxTask}
 use Rattle.tasks.specs.declared.State.{State}
 use Rattle.tasks.specs.declared.Stop.{Stop}
 use Rattle.tasks.specs.declared.StopResult.{StopResult}
 use Rattle.tasks.specs.declared.Task.{Task}
-use Rattle.tasks.specs.declared.TaskResult.{TaskResult}
 use Rattle.tasks.specs.declared.Transition.{Transition}
 use Rattle.tasks.specs.declared.Wait.{Wait}
 use Rattle.tasks.specs.Pending.{pending_of, asked_slot}
-use Rattle.requests.specs.Requests.{slot_has_token, slot_has_buffer, token_held, buffer_held, tx_length_unfit, allow, allowed_of, start_allowed, not_allowed}
+use Rattle.requests.specs.Requests.{slot_has_token, slot_has_buffer, token_held, buffer_held, tx_length_unfit, allowed_of, start_allowed, not_allowed}
 use Rattle.results.specs.Results.{received_unfit}
 use Rattle.engine.specs.Refusals.{none_fits, result_fits, entered_fits, stop_fits, fits, result_unfit, stop_unfit, begins_ack_wait, later_refusal}
 use Rattle.engine.specs.Actions.{outbound_open}
@@ -36,8 +34,8 @@ use Rattle.waiting_line.specs.Line.{allows, is_tx, any_passes}
 use Rattle.service.specs.declared.ServiceCall.{ServiceCall}
 use Rattle.service.specs.Service.{allowed_waits, service_of}
 use Rattle.service.specs.Refusals.{is_asking, service_fits, service_later}
-use Rattle.service.specs.LineBook.{Arrival, LineBook, earliest_in}
-use Rattle.service.specs.Lists.{some_result, entered_next, free_buffer, some_arrival, is_empty, way_on_of, requests_in}
+use Rattle.service.specs.LineBook.{Arrival, LineBook}
+use Rattle.service.specs.Lists.{some_result, entered_next, free_buffer, some_arrival, is_empty, way_on_of}
 use Rattle.service.proofs.Arrivals.{Search, none, found_one, search_in}
 use Rattle.service.proofs.Kept.{LineKept}
 use Rattle.service.proofs.Refusals.{service_refusal_lem}

@@ -1,7 +1,7 @@
 -- What is claimed of the book alone after every call: the request's third demand with the waiting line, and the order of leaving. No state
 -- and no wait is among the imports.
 -- Assumes nothing.
-use Rattle.std.specs.Prelude.{ℕ, ◌+◌, ◌≤◌, ◌<◌, ◌≡◌, Bool, true, false, cond, ◌&&◌, List, [], ◌∷◌, ◌++◌, length}
+use Rattle.std.specs.Prelude.{ℕ, ◌+◌, ◌≤◌, ◌<◌, ◌≡◌, Bool, false, cond, ◌&&◌, List, [], ◌∷◌, ◌++◌, length}
 use Rattle.std.specs.Bool.{beq}
 use Rattle.tasks.specs.declared.Request.{Request}
 use Rattle.requests.specs.Requests.{timed}

@@ -1,15 +1,7 @@
 -- `asking::asking` meets its contract: each arm is what the definition says of that call.
 -- Assumes nothing.
-use Prim.Native.Nat.{ℕ}
-use mathlib.Core.Path.{◌≡◌, refl, ◌∙◌}
-use mathlib.Core.List.{List, [], ◌∷◌}
-use Rattle.tasks.specs.declared.Asked.{Asked}
-use Rattle.tasks.specs.declared.Call.{Call}
-use Rattle.tasks.specs.declared.State.{State}
-use Rattle.moves.specs.Move.{unfit}
 use Rattle.util.proofs.Tests.{at_case}
 use Rattle.asking.specs.Asking.{asking_of}
-use borrow.Author.Rules.{rules}
 use native.Mathlib.Omega.{arith}
 use Rattle.std.proofs.lemmas.Grind.{common_steps}
 use Rattle.asking.proofs.asking.Goals as goal

@@ -1,13 +1,6 @@
 -- `entered::ack_wait_entered` meets its contract: each arm is what the definition says of that result.
 -- Assumes nothing.
-use Prim.Native.Nat.{ℕ}
-use mathlib.Core.Path.{◌≡◌, refl, ◌∙◌}
-use mathlib.Core.List.{List, [], ◌∷◌}
 use borrow.Author.Rules.{rules}
-use Rattle.tasks.specs.declared.State.{State}
-use Rattle.tasks.specs.declared.TaskResult.{TaskResult}
-use Rattle.tasks.specs.declared.TxTask.{TxTask}
-use Rattle.moves.specs.Move.{unfit}
 use Rattle.util.proofs.Tests.{at_case}
 use Rattle.entered.specs.Entered.{ack_wait_entered}
 use Rattle.entered.proofs.ack_wait_entered.Goals as goal

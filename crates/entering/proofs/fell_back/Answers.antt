@@ -1,14 +1,6 @@
 -- `entering::fell_back` meets its contract: each arm is what the definition says of that transition.
 -- Assumes nothing.
-use Prim.Native.Nat.{ℕ}
-use mathlib.Core.Path.{◌≡◌, refl, ◌∙◌}
-use mathlib.Core.List.{List, [], ◌∷◌}
 use borrow.Author.Rules.{rules}
-use Rattle.tasks.specs.declared.Cause.{Cause}
-use Rattle.tasks.specs.declared.State.{State}
-use Rattle.tasks.specs.declared.TaskResult.{TaskResult}
-use Rattle.tasks.specs.declared.Transition.{Transition}
-use Rattle.moves.specs.Move.{unfit}
 use Rattle.util.proofs.Tests.{at_case}
 use Rattle.entering.specs.Entering.{fell_back_of}
 use Rattle.entering.proofs.fell_back.Goals as goal

@@ -1,13 +1,6 @@
 -- `entering::off_rolled_back` meets its contract: each arm is what the definition says of that next task.
 -- Assumes nothing.
-use Prim.Native.Nat.{ℕ}
-use mathlib.Core.Path.{◌≡◌, refl, ◌∙◌}
-use mathlib.Core.List.{List, [], ◌∷◌}
 use borrow.Author.Rules.{rules}
-use Rattle.tasks.specs.declared.Next.{Next}
-use Rattle.tasks.specs.declared.RxTask.{RxTask}
-use Rattle.tasks.specs.declared.State.{State}
-use Rattle.moves.specs.Move.{unfit}
 use Rattle.util.proofs.Tests.{at_case}
 use Rattle.entering.specs.Entering.{off_rolled_back}
 use Rattle.entering.proofs.off_rolled_back.Goals as goal

@@ -1,12 +1,6 @@
 -- `entering::rolled_back` meets its contract: each arm is what the definition says of that transition.
 -- Assumes nothing.
-use Prim.Native.Nat.{ℕ}
-use mathlib.Core.Path.{◌≡◌, refl, ◌∙◌}
-use mathlib.Core.List.{List, [], ◌∷◌}
 use borrow.Author.Rules.{rules}
-use Rattle.tasks.specs.declared.State.{State}
-use Rattle.tasks.specs.declared.Transition.{Transition}
-use Rattle.moves.specs.Move.{unfit}
 use Rattle.util.proofs.Tests.{at_case}
 use Rattle.entering.specs.Entering.{rolled_back_of}
 use Rattle.entering.proofs.rolled_back.Goals as goal

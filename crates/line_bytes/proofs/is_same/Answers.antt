@@ -1,11 +1,8 @@
 -- `line_bytes::is_same` meets its contract: at the head of the loop, what is found so far and the rest make the whole.
 -- Assumes nothing.
-use Prim.Native.Nat.{◌-◌, ◌≤◌}
-use mathlib.Core.Path.{◌≡◌, refl, sym, ◌∙◌}
+use mathlib.Core.Path.{refl, sym, ◌∙◌}
 use native.Mathlib.Omega.{arith}
-use lib.ListN.{length}
-use Rattle.state_bytes.specs.Valid.{same_list}
-use Rattle.state_bytes.proofs.Same.{From, one_more, all_seen, other_length}
+use Rattle.state_bytes.proofs.Same.{one_more, all_seen, other_length}
 use Rattle.line_bytes.proofs.is_same.Goals as goal
 
 pub returns-then-a-b : goal.returns-then-a-b

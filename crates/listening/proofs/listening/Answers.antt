@@ -1,13 +1,6 @@
 -- `listening::listening` meets its contract: each arm is what the definition says of that call.
 -- Assumes nothing.
-use Prim.Native.Nat.{ℕ}
-use mathlib.Core.Path.{◌≡◌, refl, ◌∙◌}
-use mathlib.Core.List.{List, [], ◌∷◌}
 use borrow.Author.Rules.{rules}
-use Rattle.tasks.specs.declared.Call.{Call}
-use Rattle.tasks.specs.declared.RxTask.{RxTask}
-use Rattle.tasks.specs.declared.State.{State}
-use Rattle.moves.specs.Move.{unfit}
 use Rattle.util.proofs.Tests.{at_case}
 use Rattle.listening.specs.Listening.{listening_of}
 use Rattle.listening.proofs.listening.Goals as goal

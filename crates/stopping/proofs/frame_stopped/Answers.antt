@@ -1,13 +1,6 @@
 -- `stopping::frame_stopped` meets its contract: each arm is what the definition says of that outcome.
 -- Assumes nothing.
-use Prim.Native.Nat.{ℕ}
-use mathlib.Core.Path.{◌≡◌, refl, ◌∙◌}
-use mathlib.Core.List.{List, [], ◌∷◌}
 use borrow.Author.Rules.{rules}
-use Rattle.tasks.specs.declared.RxTask.{RxTask}
-use Rattle.tasks.specs.declared.State.{State}
-use Rattle.tasks.specs.declared.StopResult.{StopResult}
-use Rattle.moves.specs.Move.{unfit}
 use Rattle.util.proofs.Tests.{at_case}
 use Rattle.stopping.specs.Stopping.{frame_stopped}
 use Rattle.stopping.proofs.frame_stopped.Goals as goal

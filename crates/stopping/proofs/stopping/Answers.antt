@@ -1,13 +1,6 @@
 -- `stopping::stopping` meets its contract: each arm is what the definition says of that call.
 -- Assumes nothing.
-use Prim.Native.Nat.{ℕ}
-use mathlib.Core.Path.{◌≡◌, refl, ◌∙◌}
-use mathlib.Core.List.{List, [], ◌∷◌}
 use borrow.Author.Rules.{rules}
-use Rattle.tasks.specs.declared.Call.{Call}
-use Rattle.tasks.specs.declared.State.{State}
-use Rattle.tasks.specs.declared.Stop.{Stop}
-use Rattle.moves.specs.Move.{unfit}
 use Rattle.util.proofs.Tests.{at_case}
 use Rattle.stopping.specs.Stopping.{stopping_of}
 use Rattle.stopping.proofs.stopping.Goals as goal

@@ -248,7 +248,6 @@ fn encode(frame: &[u8]) -> [u8; 32]
 }
 
 // Writes the facts that the arrived bytes of a frame give, where the slice for them has 32 bytes; returns 0, or the refusal 1.
-#[tactic(auto, using(crate::proofs::Called::stored_info, crate::proofs::ReadBack::info_reads_back))]
 pub fn preliminary_frame_info(frame: &[u8], info: &mut [u8]) -> u8
     ensures { InfoCalled frame.now info.old result info.new }
 {

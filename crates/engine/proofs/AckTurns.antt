@@ -231,7 +231,7 @@ module _ (s : State) (pool : List ℕ) where
 
   -- ---- The header: where no ACK is due, none is turned to
   module _ (q : RxTask) (arrived length : ℕ) (here : s.wait ≡ Wait.Reading q)
-      (none-due : (k : ℕ) → AckDue s pool (Call.Header arrived length) q arrived length k → ⊥) where
+      (none_due : (k : ℕ) → AckDue s pool (Call.Header arrived length) q arrived length k → ⊥) where
     abbrev info : PreliminaryFrameInfo
     info = arrived_info s.set pool q arrived
 
@@ -248,7 +248,7 @@ module _ (s : State) (pool : List ℕ) where
           → (t : Bool) → fc.ack_request ≡ t → cond fc.ack_request (AckSeqNum.Is k) AckSeqNum.None ≡ AckSeqNum.None
       no_bit fc k f control number addressing other false e = rw e refl
       no_bit fc k f control number addressing other true e =
-          absurd (none-due k
+          absurd (none_due k
           (record {
             reading = here;
             header = refl;

@@ -11,7 +11,7 @@ use Rattle.tasks.specs.declared.TaskResult.{TaskResult}
 use Rattle.moves.specs.declared.Move.{Move}
 use Rattle.engine.specs.Step.{move_of, step_of}
 use Rattle.engine.specs.Answered.{Tells}
-use Rattle.engine.specs.Reasons.{Reason, listening_ended, received, received_acknowledged, failed, sent, acknowledged, unacknowledged, window_ended_lem, Reasons, EveryAnswerHasItsReason, left_quality, told_quality, CarriesTold, AllCarryTold, EveryQualityIsTold}
+use Rattle.engine.specs.Reasons.{Reason, listening_ended, received, received_acknowledged, failed, sent, acknowledged, unacknowledged, ack_window_ended, Reasons, EveryAnswerHasItsReason, left_quality, told_quality, CarriesTold, AllCarryTold, EveryQualityIsTold}
 use Rattle.engine.proofs.Table.{Legal, refuse, stay, swap, enters, step_legal}
 
 pub legal_reasons : (s : State) (pool : List ℕ) (c : Call) (m : Move) → Legal s pool c m → Reasons s pool c m.reply.answers
@@ -44,7 +44,7 @@ reason_carries s pool c x (failed l q k r cause w h) = refl
 reason_carries s pool c x (sent q n t w h) = refl
 reason_carries s pool c x (acknowledged a n r w t h) = refl
 reason_carries s pool c x (unacknowledged a n r w t h) = refl
-reason_carries s pool c x (window_ended_lem q t w) = refl
+reason_carries s pool c x (ack_window_ended q t w) = refl
 
 pub reasons_carry : (s : State) (pool : List ℕ) (c : Call) (x : Answers) → Reasons s pool c x → AllCarryTold c x
 reasons_carry s pool c Answers.None R = tt

@@ -56,7 +56,7 @@ use Rattle.engine.specs.Step.{wait_move, move_of}
 use Rattle.engine.specs.Refusals.{goes_off, rollback_fits, fits}
 use Rattle.engine.specs.Book.{Progress, frame_started, is_number, Entry, Radio, Book, answers_transmit, enter}
 use Rattle.engine.specs.Answered.{Tells, is_ack, AnsweredRight}
-use Rattle.engine.specs.Reasons.{Reason, listening_ended, received, received_acknowledged, failed, sent, acknowledged, unacknowledged, window_ended_lem, Reasons}
+use Rattle.engine.specs.Reasons.{Reason, listening_ended, received, received_acknowledged, failed, sent, acknowledged, unacknowledged, ack_window_ended, Reasons}
 use Rattle.engine.specs.Agreement.{Standing, tx_standing, rx_standing, awaiting, left_standing, next_standing, wait_standing, standing, AgreesOne}
 use Rattle.engine.specs.Asks.{asks_after, outbound_after}
 use Rattle.engine.specs.Actions.{rollback_on, RequestDone, request_ifs, Spaced, asks_of, outbound_open}
@@ -262,7 +262,7 @@ module _ (set : Settings) (pool : List ℕ) where
         (paid refl refl refl (λ set' h e A. received_right set' pool _ _ e A RxResult.RxWindowEnded refl), refl)
         (accepts (asked_action (Asked.AfterWindow p)) q.task) (its_buffer q.task) (request_acts (Asked.AfterWindow p) Left.Off) refl
     taken_legal (Asked.AfterAckWindow p t) =
-        enters Left.Off (previous_task_of set (Asked.AfterAckWindow p t)).owed N (window_ended_lem p t refl)
+        enters Left.Off (previous_task_of set (Asked.AfterAckWindow p t)).owed N (ack_window_ended p t refl)
         (paid refl refl refl (λ set' h e A. window_right set' pool _ _ e A t refl refl refl), refl)
         (accepts (asked_action (Asked.AfterAckWindow p t)) q.task) (its_buffer q.task) (request_acts (Asked.AfterAckWindow p t) Left.Off) refl
     taken_legal (Asked.Receiving p i) =
@@ -288,7 +288,7 @@ module _ (set : Settings) (pool : List ℕ) where
   none_legal Asked.Idle = five
   none_legal (Asked.AfterWindow q) = five
   none_legal (Asked.AfterAckWindow q t) =
-      stay (Wait.Asking Asked.Idle) (Answers.One (to_tx q (Response.Nack t))) [] (window_ended_lem q t refl) (λ b. refl)
+      stay (Wait.Asking Asked.Idle) (Answers.One (to_tx q (Response.Nack t))) [] (ack_window_ended q t refl) (λ b. refl)
       (paid refl refl refl (λ set' h e A. window_right set' pool _ _ e A t refl refl refl), refl) tt refl
       (acts (λ r f. tt) (λ r f. f) refl refl tt refl refl)
   none_legal (Asked.Receiving q i) =

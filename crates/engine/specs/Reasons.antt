@@ -50,7 +50,7 @@ pub data Reason (s : State) (pool : List ℕ) (c : Call) : Answer → Type 0 whe
   unacknowledged : (a : AwaitedAck) (n : Next) (r : RxResult) → s.wait ≡ Wait.Entering (Transition.Request (Left.ReceivingAck a) n)
       → Tells c (TaskResult.Rx r) → is_ack s.set pool s.set.spare_buffer a.number r ≡ false → Reason s pool c (to_tx a.task (Response.Nack a.time))
   -- Nack: the ACK's window ended
-  window_ended_lem : (q : TxTask) (t : ℕ) → s.wait ≡ Wait.Asking (Asked.AfterAckWindow q t) → Reason s pool c (to_tx q (Response.Nack t))
+  ack_window_ended : (q : TxTask) (t : ℕ) → s.wait ≡ Wait.Asking (Asked.AfterAckWindow q t) → Reason s pool c (to_tx q (Response.Nack t))
 
 abbrev pub Reasons : State → List ℕ → Call → Answers → Type 0
 Reasons s pool c Answers.None = Unit {0}

@@ -293,19 +293,19 @@ module _ (frame : List ℕ) (fc : FrameControl) (n : SeqNrFact) {at : ℕ} {l : 
       → pan_id_found frame at l.dst_pan_id ≡ PanIdFound.Missing → r ≡ numbered_info frame fc n
   ends_first e f g = e ∙ rw f (first_gap frame fc n (rw (begins, told) at g))
 
-  module _ {p : PanId} {i : SrcPanIdFact} (e1 : pan_id_found frame at l.dst_pan_id ≡ PanIdFound.Is p) (i-is : i ≡ inherited_pan_id l.src_pan_id l.src_address p) where
+  module _ {p : PanId} {i : SrcPanIdFact} (e1 : pan_id_found frame at l.dst_pan_id ≡ PanIdFound.Is p) (i_is : i ≡ inherited_pan_id l.src_pan_id l.src_address p) where
     pub ends_second : {u : AddressFact} {r : PreliminaryFrameInfo} → r ≡ before_gap fc n i u → u ≡ unread_address fc.src_addressing_mode
         → address_fact frame dst_at_of fc.dst_addressing_mode ≡ AddressFact.Missing → r ≡ numbered_info frame fc n
-    ends_second e f g = e ∙ rw (f, i-is, told) (second_gap frame fc n (rw begins at h) (rw (begins, told) at e1) (rw (begins, told) at g))
+    ends_second e f g = e ∙ rw (f, i_is, told) (second_gap frame fc n (rw begins at h) (rw (begins, told) at e1) (rw (begins, told) at g))
 
     pub ends_third : {u : AddressFact} {r : PreliminaryFrameInfo} → r ≡ before_gap fc n i u → u ≡ unread_address fc.src_addressing_mode
         → pan_id_found frame src_pan_at l.src_pan_id ≡ PanIdFound.Missing → r ≡ numbered_info frame fc n
-    ends_third e f g = e ∙ rw (f, i-is, told) (third_gap frame fc n (rw begins at h) (rw (begins, told) at e1) (rw (begins, told) at g))
+    ends_third e f g = e ∙ rw (f, i_is, told) (third_gap frame fc n (rw begins at h) (rw (begins, told) at e1) (rw (begins, told) at g))
 
     module _ {a : Address} {q : PanId} {pan : SrcPanIdFact} (e2 : address_fact frame dst_at_of fc.dst_addressing_mode ≡ AddressFact.Is a)
-        (e3 : pan_id_found frame src_pan_at l.src_pan_id ≡ PanIdFound.Is q) (pan-is-from : pan ≡ src_pan_id_from i q) where
+        (e3 : pan_id_found frame src_pan_at l.src_pan_id ≡ PanIdFound.Is q) (pan_is_from : pan ≡ src_pan_id_from i q) where
       pub ends_fourth : {r : PreliminaryFrameInfo} → r ≡ before_gap fc n pan AddressFact.Missing → address_fact frame src_at fc.src_addressing_mode ≡ AddressFact.Missing → r ≡ numbered_info frame fc n
-      ends_fourth e g = e ∙ rw (pan-is-from, i-is, told) (fourth_gap frame fc n (rw begins at h) (rw (begins, told) at e1) (rw (begins, told) at e2) (rw (begins, told) at e3) (rw (begins, told) at g))
+      ends_fourth e g = e ∙ rw (pan_is_from, i_is, told) (fourth_gap frame fc n (rw begins at h) (rw (begins, told) at e1) (rw (begins, told) at e2) (rw (begins, told) at e3) (rw (begins, told) at g))
 
       pub ends_whole : {b : Address} → address_fact frame src_at fc.src_addressing_mode ≡ AddressFact.Is b
           → record {
@@ -316,7 +316,7 @@ module _ (frame : List ℕ) (fc : FrameControl) (n : SeqNrFact) {at : ℕ} {l : 
             src_address = AddressFact.Is b;
             addressing_end = AddressingEndFact.Is (src_at + l.src_address);
           } ≡ numbered_info frame fc n
-      ends_whole g = rw (pan-is-from, i-is, told, begins) (whole frame fc n (rw begins at h) (rw (begins, told) at e1) (rw (begins, told) at e2) (rw (begins, told) at e3) (rw (begins, told) at g))
+      ends_whole g = rw (pan_is_from, i_is, told, begins) (whole frame fc n (rw begins at h) (rw (begins, told) at e1) (rw (begins, told) at e2) (rw (begins, told) at e3) (rw (begins, told) at g))
 
 -- The facts so far, at each place where the reading ends before the address fields.
 module _ (frame : List ℕ) {fc : FrameControl} (there : frame_control_fact frame ≡ FrameControlFact.Is fc) where

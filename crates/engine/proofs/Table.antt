@@ -4,7 +4,7 @@ use Prim.Native.Nat.{ℕ, suc, ◌+◌, ◌<◌}
 use mathlib.Core.Path.{◌≡◌, refl, ◌∙◌, ap}
 use mathlib.Core.Bool.{Bool, true, false, cond, ◌||◌}
 use mathlib.Core.List.{List, [], ◌∷◌, ◌++◌}
-use lib.Dec.{eqb}
+use lib.Dec.{eqb, leb}
 use lib.ListN.{take, drop}
 use native.Mathlib.Omega.{arith}
 use borrow.Author.Tests.{eqb-true}
@@ -42,7 +42,7 @@ use Rattle.tasks.specs.declared.Transition.{Transition}
 use Rattle.tasks.specs.declared.TxTask.{TxTask}
 use Rattle.tasks.specs.declared.Wait.{Wait}
 use Rattle.tasks.specs.Answers.{to_tx, to_rx, answers_of}
-use Rattle.requests.specs.Requests.{allowed_of}
+use Rattle.requests.specs.Requests.{token_held, buffer_held, request_refusal, allowed_of}
 use Rattle.results.specs.Results.{leave_off, leave_receiving, leave_sending, leave_sending_ack, ack_response, ack_received, leave_receiving_ack, leave_of}
 use Rattle.moves.specs.declared.Move.{Move}
 use Rattle.moves.specs.Move.{refused_of, guarded_of}
@@ -217,6 +217,17 @@ module _ (set : Settings) (pool : List ℕ) where
   module _ (q : Request) where
     N : List Standing
     N = new_standing (next_of set pool q q.task)
+
+    -- refusals 6 to 9 are passed, so the buffer is not held
+    pub free : (s : State) (a : Asked) → request_refusal s a q ≡ 0
+        → (buffer_held s q.buffer ≡ false) × (token_held s.wait q.token ≡ false)
+    unfolding request_refusal
+    free s a h =
+        let t = passed (token_held s.wait q.token) 6 _ (omega arith) h in (
+          (neither (leb s.set.count q.buffer) _
+              (passed (leb s.set.count q.buffer || buffer_held s q.buffer) 7 _ (omega arith) t.1).0).1,
+          t.0,
+        )
 
     -- the request that is entered, once the call is told
     accepts : (action : Action) (task : Task)

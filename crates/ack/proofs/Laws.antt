@@ -2,7 +2,8 @@
 -- Assumes nothing.
 use Prim.Native.Nat.{ℕ, ◌+◌, ◌*◌, ◌/◌, ◌%◌, ◌^◌, ◌≤◌, ◌<◌}
 use mathlib.Core.Path.{◌≡◌, ◌∙◌, sym, ap}
-use mathlib.Core.Bool.{Bool, true, false, ◌&&◌, and-false, and-eq-true_iff}
+use mathlib.Core.Bool.{Bool, true, false, ◌&&◌, and-false}
+use Rattle.std.specs.Cmp.{first_so, second_so}
 use mathlib.Core.Logic.{inl, inr, ⊎_elim}
 use mathlib.Core.List.{List}
 use native.Mathlib.Nat.{eq-or-lt_of_le, mod-mod}
@@ -15,18 +16,12 @@ use lib.Seq.{get_or-set_same, get_or-set_other, get_or-take, get_or-drop}
 use Rattle.ack.specs.Ack.{imm_ack_frame_at, seq_nr_set_at, mask_efff, three_bytes, acknowledges}
 use Rattle.ack.specs.Ack.{OneNumber, ThreeBytes, ShortFramesNever, TwoControls, ReadBack, ThreePlaces, OnePlace}
 
-first : (a b : Bool) → (a && b) ≡ true → a ≡ true
-first a b h = ((and-eq-true_iff a b).0 h).0
-
-second : (a b : Bool) → (a && b) ≡ true → b ≡ true
-second a b h = ((and-eq-true_iff a b).0 h).1
-
 third_byte : (frame : List ℕ) (len k : ℕ) → acknowledges frame len k ≡ true → get_or frame 2 0 ≡ k
 unfolding acknowledges
 third_byte frame len k h =
     let control = eqb (mask_efff (get_or frame 0 0 + 256 * get_or frame 1 0)) 2 in
     let number = eqb (get_or frame 2 0) k in
-    eqb-true _ _ (second control number (second (three_bytes frame len) (control && number) h))
+    eqb-true _ _ (second_so control number (second_so (three_bytes frame len) (control && number) h))
 
 pub one_number : OneNumber
 one_number frame len j k p q = sym (third_byte frame len j p) ∙ third_byte frame len k q
@@ -35,7 +30,7 @@ pub three_bytes_lem : ThreeBytes
 unfolding acknowledges three_bytes
 three_bytes_lem frame len k h =
     let control = eqb (mask_efff (get_or frame 0 0 + 256 * get_or frame 1 0)) 2 in
-    eqb-true _ _ (first (eqb len 3) _ (first (three_bytes frame len) (control && eqb (get_or frame 2 0) k) h))
+    eqb-true _ _ (first_so (eqb len 3) _ (first_so (three_bytes frame len) (control && eqb (get_or frame 2 0) k) h))
 
 not_three : (frame : List ℕ) (len : ℕ) → length frame < 3 → three_bytes frame len ≡ false
 unfolding three_bytes

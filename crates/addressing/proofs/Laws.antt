@@ -7,7 +7,7 @@ use native.Mathlib.Omega.{arith}
 use lib.Dec.{ltb}
 use Rattle.frame_control.specs.declared.AddressingMode.{AddressingMode}
 use Rattle.frame_control.specs.declared.AddressingMode.TheVariants.{Absent, Unknown, Short, Extended}
-use Rattle.frame_control.proofs.Laws.{and_first}
+use Rattle.std.specs.Cmp.{first_so}
 use Rattle.addressing.specs.declared.PanIdsPresent.{PanIdsPresent}
 use Rattle.addressing.proofs.PanIdCompression.{keeps_reading}
 use Rattle.addressing.specs.Addressing.{address_length, pan_id_length, legacy_pan_ids, current_sentences, lengths_of, LengthsBounded, SourcePanNeedsSource}
@@ -44,7 +44,7 @@ sentence_source true true false compression e = refl
 
 either_source : (legacy dst src both compression : Bool) → (cond legacy (legacy_pan_ids dst src compression) (current_sentences dst src both compression)).src ≡ true → src ≡ true
 unfolding legacy_pan_ids
-either_source true dst src both compression e = and_first _ _ e
+either_source true dst src both compression e = first_so _ _ e
 either_source false dst src both compression e = sentence_source dst src both compression e
 
 pub source_pan_needs_source : SourcePanNeedsSource

@@ -1,3 +1,2 @@
 pub mod Addressing
 pub mod PanIdCompression
-pub mod Steps

@@ -3,9 +3,9 @@
 
 ghost use Rattle.std.specs.Prelude.{◌≡◌};
 ghost use Rattle.addressing.specs.Addressing.{present, address_length, pan_id_length, legacy_pan_ids, current_pan_ids, pan_ids_of, lengths_of};
-ghost use Rattle.addressing.specs.Steps.{mode_bits, compression_fields};
 
-use frame_control::{AddressingMode, FrameControl};
+use frame_control::AddressingMode::{self, Absent, Extended, Short, Unknown};
+use frame_control::FrameControl;
 
 // What the standard's table says of a PAN.
 const NOT_PRESENT: bool = false;
@@ -28,28 +28,25 @@ pub struct AddressingFieldsLengths {
     pub src_address: u8,
 }
 
+#[tactic(auto, unfolding(crate::specs::Addressing::present))]
 fn is_present(mode: AddressingMode) -> bool
     ensures { result ≡ present mode }
 {
-    match mode {
-        AddressingMode::Absent => false,
-        AddressingMode::Unknown => false,
-        AddressingMode::Short => true,
-        AddressingMode::Extended => true,
-    }
+    matches!(mode, Short | Extended)
 }
 
+#[tactic(auto, unfolding(crate::specs::Addressing::address_length))]
 fn address_length(mode: AddressingMode) -> u8
     ensures { result ≡ address_length mode }
 {
     match mode {
-        AddressingMode::Absent => 0,
-        AddressingMode::Unknown => 0,
-        AddressingMode::Short => 2,
-        AddressingMode::Extended => 8,
+        Absent | Unknown => 0,
+        Short => 2,
+        Extended => 8,
     }
 }
 
+#[tactic(auto, unfolding(crate::specs::Addressing::pan_id_length))]
 fn pan_id_length(stands: bool) -> u8
     ensures { result ≡ pan_id_length stands }
 {
@@ -57,87 +54,64 @@ fn pan_id_length(stands: bool) -> u8
 }
 
 // Versions 0 and 1.
+#[tactic(auto, unfolding(crate::specs::Addressing::legacy_pan_ids))]
 fn legacy_pan_ids(dst: bool, src: bool, compression: bool) -> PanIdsPresent
     ensures { result ≡ legacy_pan_ids dst src compression }
 {
     PanIdsPresent {
-        dst: dst,
-        src: util::both(src, !util::both(dst, compression)),
+        dst,
+        src: src && !(dst && compression),
     }
 }
 
-// A mode as its two bits in control; but the reserved mode, 01, counts as not present.
-fn mode_bits(mode: AddressingMode) -> u8
-    ensures { result ≡ mode_bits mode }
-{
-    match mode {
-        AddressingMode::Absent => 0b00,
-        AddressingMode::Unknown => 0b00,
-        AddressingMode::Short => 0b10,
-        AddressingMode::Extended => 0b11,
-    }
-}
-
-// Destination mode, source mode and bit 6 as five bits.
-fn compression_fields(dst: AddressingMode, src: AddressingMode, compression: bool) -> u8
-    ensures { result ≡ compression_fields dst src compression }
-{
-    mode_bits(dst) * 8 + mode_bits(src) * 2 + util::flag_number(compression)
-}
-
-fn pans(dst: bool, src: bool) -> PanIdsPresent
-    ensures { result ≡ record { dst = dst; src = src } }
-{
-    PanIdsPresent { dst: dst, src: src }
-}
-
-// Version 2: the standard's table, one case for each row, in its order (specs/PanIdCompression.antt). A case has the bits of
-// destination mode, source mode and bit 6: 00 not present, 10 short, 11 extended; "present" is 10 or 11.
+// Version 2: the standard's table, one case for each row, in its order (specs/PanIdCompression.antt). The reserved mode counts as
+// not present; the table's "present" is short or extended.
+#[tactic(auto, unfolding(crate::specs::Addressing::current_pan_ids, crate::specs::Addressing::address_length))]
 fn current_pan_ids(dst: AddressingMode, src: AddressingMode, compression: bool) -> PanIdsPresent
     ensures { result ≡ current_pan_ids dst src compression }
 {
-    let fields = compression_fields(dst, src, compression);
-    match fields {
-        0b00_00_0 => pans(NOT_PRESENT, NOT_PRESENT), // row 1
-        0b00_00_1 => pans(PRESENT, NOT_PRESENT), // row 2
-        0b10_00_0 | 0b11_00_0 => pans(PRESENT, NOT_PRESENT), // row 3
-        0b10_00_1 | 0b11_00_1 => pans(NOT_PRESENT, NOT_PRESENT), // row 4
-        0b00_10_0 | 0b00_11_0 => pans(NOT_PRESENT, PRESENT), // row 5
-        0b00_10_1 | 0b00_11_1 => pans(NOT_PRESENT, NOT_PRESENT), // row 6
-        0b11_11_0 => pans(PRESENT, NOT_PRESENT), // row 7
-        0b11_11_1 => pans(NOT_PRESENT, NOT_PRESENT), // row 8
-        0b10_10_0 => pans(PRESENT, PRESENT), // row 9
-        0b10_11_0 => pans(PRESENT, PRESENT), // row 10
-        0b11_10_0 => pans(PRESENT, PRESENT), // row 11
-        0b10_11_1 => pans(PRESENT, NOT_PRESENT), // row 12
-        0b11_10_1 => pans(PRESENT, NOT_PRESENT), // row 13
-        0b10_10_1 => pans(PRESENT, NOT_PRESENT), // row 14
-        _ => pans(NOT_PRESENT, NOT_PRESENT), // no other combination
-    }
+    let (dst, src) = match (dst, src, compression) {
+        (Absent | Unknown, Absent | Unknown, false) => (NOT_PRESENT, NOT_PRESENT), // row 1
+        (Absent | Unknown, Absent | Unknown, true) => (PRESENT, NOT_PRESENT), // row 2
+        (Short | Extended, Absent | Unknown, false) => (PRESENT, NOT_PRESENT), // row 3
+        (Short | Extended, Absent | Unknown, true) => (NOT_PRESENT, NOT_PRESENT), // row 4
+        (Absent | Unknown, Short | Extended, false) => (NOT_PRESENT, PRESENT), // row 5
+        (Absent | Unknown, Short | Extended, true) => (NOT_PRESENT, NOT_PRESENT), // row 6
+        (Extended, Extended, false) => (PRESENT, NOT_PRESENT), // row 7
+        (Extended, Extended, true) => (NOT_PRESENT, NOT_PRESENT), // row 8
+        (Short, Short, false) => (PRESENT, PRESENT), // row 9
+        (Short, Extended, false) => (PRESENT, PRESENT), // row 10
+        (Extended, Short, false) => (PRESENT, PRESENT), // row 11
+        (Short, Extended, true) => (PRESENT, NOT_PRESENT), // row 12
+        (Extended, Short, true) => (PRESENT, NOT_PRESENT), // row 13
+        (Short, Short, true) => (PRESENT, NOT_PRESENT), // row 14
+    };
+    PanIdsPresent { dst, src }
 }
 
+#[tactic(auto, unfolding(crate::specs::Addressing::pan_ids_of))]
 fn pan_ids_present(fc: FrameControl) -> PanIdsPresent
     ensures { result ≡ pan_ids_of fc }
 {
     let dst = fc.dst_addressing_mode;
     let src = fc.src_addressing_mode;
     if fc.frame_version < 2 {
-        return legacy_pan_ids(is_present(dst), is_present(src), fc.pan_id_compression);
+        legacy_pan_ids(is_present(dst), is_present(src), fc.pan_id_compression)
+    } else {
+        current_pan_ids(dst, src, fc.pan_id_compression)
     }
-    current_pan_ids(dst, src, fc.pan_id_compression)
 }
 
 // The lengths of the four fields. Of a control that is not well formed nobody asks: a reserved mode counts as no address.
+#[tactic(auto, unfolding(crate::specs::Addressing::lengths_of))]
 pub fn addressing_fields_lengths(fc: FrameControl) -> AddressingFieldsLengths
     ensures { result ≡ lengths_of fc }
 {
-    let dst_mode = fc.dst_addressing_mode;
-    let src_mode = fc.src_addressing_mode;
     let pan_ids = pan_ids_present(fc);
     AddressingFieldsLengths {
         dst_pan_id: pan_id_length(pan_ids.dst),
-        dst_address: address_length(dst_mode),
+        dst_address: address_length(fc.dst_addressing_mode),
         src_pan_id: pan_id_length(pan_ids.src),
-        src_address: address_length(src_mode),
+        src_address: address_length(fc.src_addressing_mode),
     }
 }

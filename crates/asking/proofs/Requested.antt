@@ -14,7 +14,7 @@ use Rattle.tasks.specs.declared.Transition.{Transition}
 use Rattle.tasks.specs.declared.Wait.{Wait}
 use Rattle.tasks.specs.Answers.{answers_of}
 use Rattle.requests.specs.Requests.{request_refusal}
-use Rattle.moves.specs.declared.Move.{Move}
+use Rattle.moves.specs.Move.{Move}
 use Rattle.moves.specs.Move.{accepted_of, guarded_of}
 use Rattle.asking.specs.declared.PreviousTask.{PreviousTask}
 use Rattle.asking.specs.Asking.{previous_task_of, next_of, request_action, taken_of, request_of}

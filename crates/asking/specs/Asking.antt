@@ -1,6 +1,6 @@
 -- Waits that ask for a request: document 01, "Waits" and "Spacing and time".
 -- Assumes nothing.
-use Rattle.std.specs.Prelude.{ℕ, Bool, true, false, List}
+use Rattle.std.specs.Prelude.{ℕ, Bool, true, false, List, Option, Some, None}
 use Rattle.radio_frame.specs.declared.Settings.{Settings}
 use Rattle.radio_frame.specs.RadioFrame.{frame_head, sdu_length, ack_seq_num_of}
 use Rattle.phy.specs.Phy.{ifs_of}
@@ -13,8 +13,6 @@ use Rattle.tasks.specs.declared.Next.{Next}
 use Rattle.tasks.specs.declared.Request.{Request}
 use Rattle.tasks.specs.declared.Response.{Response}
 use Rattle.tasks.specs.declared.RxResult.{RxResult}
-use Rattle.tasks.specs.declared.NextTaskIfs.{NextTaskIfs}
-use Rattle.tasks.specs.declared.Owed.{Owed}
 use Rattle.tasks.specs.declared.State.{State}
 use Rattle.tasks.specs.declared.Task.{Task}
 use Rattle.tasks.specs.declared.Transition.{Transition}
@@ -22,31 +20,33 @@ use Rattle.tasks.specs.declared.TxTask.{TxTask}
 use Rattle.tasks.specs.declared.Wait.{Wait}
 use Rattle.tasks.specs.Answers.{to_tx, to_rx, answers_of}
 use Rattle.requests.specs.Requests.{request_refusal}
-use Rattle.moves.specs.declared.Move.{Move}
+use Rattle.moves.specs.Move.{Move}
 use Rattle.moves.specs.Move.{unfit, accepted_of, guarded_of, to_idle}
 use Rattle.asking.specs.declared.PreviousTask.{PreviousTask}
+use Rattle.phy.specs.declared.Ifs.{Ifs}
+use Rattle.tasks.specs.declared.Answer.{Answer}
 
 -- ".. carries the spacing of the last data frame": of a sent one, by its length with checksum
-unfoldable pub tx_spacing : Settings → TxTask → NextTaskIfs
-tx_spacing set q = NextTaskIfs.Is (ifs_of (sdu_length set q.length))
+unfoldable pub tx_spacing : Settings → TxTask → Option Ifs
+tx_spacing set q = Some (ifs_of (sdu_length set q.length))
 
-abbrev pub leaving : Owed → Left → NextTaskIfs → PreviousTask
+abbrev pub leaving : Option Answer → Left → Option Ifs → PreviousTask
 leaving owed left spacing = record { owed = owed; left = left; spacing = spacing }
 
 -- What an ask leaves: the answer that a request, or None, brings at once, the task that the radio is on, and the spacing before the next one.
 -- "A Tx or Rx scheduled out of receiving or sending carries the spacing of the last data frame; .. whatever starts from off
 -- carr[ies] none."
 unfoldable pub previous_task_of : Settings → Asked → PreviousTask
-previous_task_of set Asked.Idle = leaving Owed.None Left.Off NextTaskIfs.None
+previous_task_of set Asked.Idle = leaving None Left.Off None
 -- "Window ended there: .. answer "window ended" and go off-to-Tx, whatever the receive result was."
-previous_task_of set (Asked.AfterWindow q) = leaving (Owed.One (to_rx q (Response.Received RxResult.RxWindowEnded))) Left.Off NextTaskIfs.None
+previous_task_of set (Asked.AfterWindow q) = leaving (Some (to_rx q (Response.Received RxResult.RxWindowEnded))) Left.Off None
 -- "Window ended: ask; whatever the receive result was, the Request .. or None answers Nack and goes on from off."
-previous_task_of set (Asked.AfterAckWindow q t) = leaving (Owed.One (to_tx q (Response.Nack t))) Left.Off NextTaskIfs.None
-previous_task_of set (Asked.Receiving q i) = leaving Owed.None (Left.Receiving q) (NextTaskIfs.Is i)
-previous_task_of set (Asked.Sending q) = leaving Owed.None (Left.Sending q) (tx_spacing set q)
+previous_task_of set (Asked.AfterAckWindow q t) = leaving (Some (to_tx q (Response.Nack t))) Left.Off None
+previous_task_of set (Asked.Receiving q i) = leaving None (Left.Receiving q) (Some i)
+previous_task_of set (Asked.Sending q) = leaving None (Left.Sending q) (tx_spacing set q)
 -- after an ACK turn: the spacing of the received data frame, not of the ACK
-previous_task_of set (Asked.SendingAck i) = leaving Owed.None Left.SendingAck (NextTaskIfs.Is i)
-previous_task_of set (Asked.ReceivingAck a) = leaving Owed.None (Left.ReceivingAck a) (tx_spacing set a.task)
+previous_task_of set (Asked.SendingAck i) = leaving None Left.SendingAck (Some i)
+previous_task_of set (Asked.ReceivingAck a) = leaving None (Left.ReceivingAck a) (tx_spacing set a.task)
 
 -- "A Tx frame wants an ACK if its control at acceptance has bit 5 and its number is not suppressed; that number .. is noted."
 unfoldable pub next_of : Settings → List ℕ → Request → Task → Next
@@ -55,7 +55,7 @@ next_of set pool q (Task.Tx length cca) =
 next_of set pool q Task.Rx = Next.Rx (record { token = q.token; buffer = q.buffer })
 
 -- the task is scheduled at the request's start; "rollback off"
-unfoldable pub request_action : Request → NextTaskIfs → Task → Action
+unfoldable pub request_action : Request → Option Ifs → Task → Action
 request_action q spacing (Task.Tx length cca) = Action.Tx q.buffer length cca q.start spacing false
 request_action q spacing Task.Rx = Action.Rx q.buffer q.start spacing false
 

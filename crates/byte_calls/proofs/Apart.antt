@@ -1,5 +1,6 @@
 -- What the book's invariant says of a state: its buffers and its open tokens are different; so it is valid.
 -- Assumes nothing.
+use Rattle.std.proofs.Common.{Option, Some, None, ℕ}
 use Prim.Native.Nat.{ℕ, ◌+◌, ◌*◌, ◌<◌, ◌≤◌}
 use mathlib.Core.Path.{◌≡◌, refl, ap}
 use mathlib.Core.Bool.{true, not, ◌&&◌}
@@ -8,14 +9,12 @@ use mathlib.Core.Logic.{◌⊎◌, inl, inr}
 use lib.Dec.{eqb}
 use native.Mathlib.Omega.{arith}
 use borrow.Author.Tests.{eq-eqb, ne_eqb, lt-ltb}
-use Rattle.radio_frame.specs.declared.AckSeqNum.{AckSeqNum}
 use Rattle.radio_frame.specs.declared.Settings.{Settings}
 use Rattle.radio_frame.specs.Settings.{buffer_length, settings_refusal}
 use Rattle.radio_frame.proofs.Laws.{zero_if_fit}
 use Rattle.tasks.specs.declared.Asked.{Asked}
 use Rattle.tasks.specs.declared.Left.{Left}
 use Rattle.tasks.specs.declared.Next.{Next}
-use Rattle.tasks.specs.declared.Slot.{Slot}
 use Rattle.tasks.specs.declared.State.{State}
 use Rattle.tasks.specs.declared.Stop.{Stop}
 use Rattle.tasks.specs.declared.Transition.{Transition}
@@ -32,9 +31,9 @@ use Rattle.state_bytes.specs.Valid.{slot_fits, differs_from, slots_differ, valid
 use Rattle.byte_calls.proofs.Ranges.{PartIn, WaitIn, SettingsIn, StateIn}
 
 -- ---- The slots of a wait are what it owes
-abbrev slot_numbers : (ℕ → ℕ → ℕ) → Slot → List ℕ
-slot_numbers pick Slot.Empty = []
-slot_numbers pick (Slot.Held t b) = pick t b ∷ []
+abbrev slot_numbers : (ℕ → ℕ → ℕ) → Option (ℕ × ℕ) → List ℕ
+slot_numbers pick None = []
+slot_numbers pick (Some (t, b)) = pick t b ∷ []
 
 module _ (set : Settings) (pick : ℕ → ℕ → ℕ) where
   next_slots : (n : Next) → slot_numbers pick (next_slot n) ≡ numbers pick (next_standing n)
@@ -72,9 +71,9 @@ module _ (set : Settings) (pick : ℕ → ℕ → ℕ) where
   slots (Wait.Reading q) = refl
 
 -- ---- and their buffers are in range
-abbrev SlotIn : ℕ → Slot → Type 0
-SlotIn n Slot.Empty = Unit {0}
-SlotIn n (Slot.Held t b) = b < n
+abbrev SlotIn : ℕ → Option (ℕ × ℕ) → Type 0
+SlotIn n None = Unit {0}
+SlotIn n (Some (t, b)) = b < n
 
 module _ (n : ℕ) where
   left_slot_in : (l : Left) → PartIn n (left_part l) → SlotIn n (left_slot l)
@@ -87,8 +86,8 @@ module _ (n : ℕ) where
 
   next_slot_in : (m : Next) → PartIn n (next_part m) → SlotIn n (next_slot m)
   unfolding next_part tx_part next_slot
-  next_slot_in (Next.Tx q AckSeqNum.None) K = K.1
-  next_slot_in (Next.Tx q (AckSeqNum.Is k)) K = K.1
+  next_slot_in (Next.Tx q None) K = K.1
+  next_slot_in (Next.Tx q (Some k)) K = K.1
   next_slot_in (Next.Rx q) K = K.1
   next_slot_in Next.Off K = tt
 
@@ -123,7 +122,7 @@ differs x y h = simp (ne_eqb x y other)
 
 module _ (set : Settings) where
   -- one request's buffer, the other own ones and possibly one more
-  slot_fits_lem : (t b : ℕ) (rest : ℕ) → b < set.count → count b (own set) + (one b b + rest) ≤ 1 → slot_fits set (Slot.Held t b) ≡ true
+  slot_fits_lem : (t b : ℕ) (rest : ℕ) → b < set.count → count b (own set) + (one b b + rest) ≤ 1 → slot_fits set (Some (t, b)) ≡ true
   unfolding slot_fits
   slot_fits_lem t b rest below h =
       simp (
@@ -132,15 +131,15 @@ module _ (set : Settings) where
         differs b set.spare_buffer (omega (arith, one_self b)),
       )
 
-  pub valid_slots : (f g : Slot) → SlotIn set.count f → SlotIn set.count g
+  pub valid_slots : (f g : Option (ℕ × ℕ)) → SlotIn set.count f → SlotIn set.count g
       → ((x : ℕ) → count x (own set) + count x (slot_numbers buffer f ++ slot_numbers buffer g) ≤ 1)
       → ((x : ℕ) → count x (slot_numbers token f ++ slot_numbers token g) ≤ 1)
       → ((slot_fits set f && slot_fits set g) && slots_differ g f) ≡ true
   unfolding slots_differ differs_from slot_fits
-  valid_slots Slot.Empty Slot.Empty F G B T = refl
-  valid_slots (Slot.Held t b) Slot.Empty F G B T = simp (slot_fits_lem t b 0 F (B b))
-  valid_slots Slot.Empty (Slot.Held u c) F G B T = simp (slot_fits_lem u c 0 G (B c))
-  valid_slots (Slot.Held t b) (Slot.Held u c) F G B T =
+  valid_slots None None F G B T = refl
+  valid_slots (Some (t, b)) None F G B T = simp (slot_fits_lem t b 0 F (B b))
+  valid_slots None (Some (u, c)) F G B T = simp (slot_fits_lem u c 0 G (B c))
+  valid_slots (Some (t, b)) (Some (u, c)) F G B T =
       simp (
         slot_fits_lem t b (one b c + 0) F (B b),
         slot_fits_lem u c (one c b) G (omega (arith, B c)),

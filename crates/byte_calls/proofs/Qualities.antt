@@ -21,7 +21,7 @@ use Rattle.tasks.specs.declared.StopResult.{StopResult}
 use Rattle.tasks.specs.declared.TaskResult.{TaskResult}
 use Rattle.tasks.specs.declared.Timestamp.{Timestamp}
 use Rattle.tasks.specs.Quality.{no_quality, link_quality, response_quality}
-use Rattle.engine.specs.declared.Outcome.{Outcome}
+use Rattle.engine.specs.Step.{Outcome}
 use Rattle.engine.specs.Book.{answers_transmit}
 use Rattle.engine.specs.Step.{step_of, step_pool}
 use Rattle.engine.specs.Reasons.{left_quality, told_quality, CarriesTold, AllCarryTold, EveryQualityIsTold}

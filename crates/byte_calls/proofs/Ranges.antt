@@ -1,5 +1,6 @@
 -- Every number of a state stays in its range, and so does every number of a call's reply.
 -- Assumes nothing.
+use Rattle.std.proofs.Common.{Option, Some, None, ℕ}
 use Prim.Native.Nat.{ℕ, ◌+◌, ◌^◌, ◌<◌, ◌≤◌}
 use mathlib.Core.Path.{◌≡◌, refl}
 use mathlib.Core.Bool.{Bool, true, false, cond, not, ◌&&◌, ◌||◌}
@@ -12,10 +13,8 @@ use borrow.Author.Tests.{eqb-true, ltb-true, ltb-false, leb-false}
 use Rattle.util.specs.Bytes.{AllBytes}
 use Rattle.util.proofs.Numbers.{byte_at, take_bytes, drop_bytes}
 use Rattle.phy.specs.declared.Ifs.{Ifs}
-use Rattle.phy.specs.declared.LatestAckStart.{LatestAckStart}
 use Rattle.phy.specs.Phy.{ifs_of, latest_ack_start_of}
 use Rattle.frame_control.specs.FrameControl.{frame_control_of}
-use Rattle.radio_frame.specs.declared.AckSeqNum.{AckSeqNum}
 use Rattle.radio_frame.specs.declared.Settings.{Settings}
 use Rattle.radio_frame.specs.RadioFrame.{frame_start, frame_head, ack_seq_num_of}
 use Rattle.ack.specs.Ack.{acknowledges}
@@ -34,8 +33,6 @@ use Rattle.tasks.specs.declared.Request.{Request}
 use Rattle.tasks.specs.declared.Response.{Response}
 use Rattle.tasks.specs.declared.RxResult.{RxResult}
 use Rattle.tasks.specs.declared.RxTask.{RxTask}
-use Rattle.tasks.specs.declared.NextTaskIfs.{NextTaskIfs}
-use Rattle.tasks.specs.declared.Owed.{Owed}
 use Rattle.tasks.specs.declared.State.{State}
 use Rattle.tasks.specs.declared.Stop.{Stop}
 use Rattle.tasks.specs.declared.StopResult.{StopResult}
@@ -47,7 +44,7 @@ use Rattle.tasks.specs.declared.TxTask.{TxTask}
 use Rattle.tasks.specs.declared.Wait.{Wait}
 use Rattle.requests.specs.Requests.{token_held, buffer_held, tx_length_unfit, request_refusal}
 use Rattle.results.specs.Results.{received_unfit, received_refusal, leave_off, leave_receiving, leave_sending, leave_sending_ack, ack_response, ack_received, leave_receiving_ack, leave_of}
-use Rattle.moves.specs.declared.Move.{Move}
+use Rattle.moves.specs.Move.{Move}
 use Rattle.moves.specs.Move.{refused_of, guarded_of}
 use Rattle.asking.specs.Asking.{previous_task_of, next_of, request_action, taken_of, request_of, none_of, asking_of}
 use Rattle.tasks.specs.Answers.{answers_of}
@@ -62,6 +59,7 @@ use Rattle.engine.proofs.Table.{move_to, passed, neither}
 use Rattle.wait_parts.specs.declared.Part.{Part}
 use Rattle.wait_parts.specs.Parts.{no_task, rx_task, part_of, asked_part, left_part, tx_part, next_part, stop_part, transition_parts, wait_parts_of}
 use Rattle.reply_bytes.specs.Reply.{TimestampFits, ActionFits, CauseFits, ReceivedFits, AnswerFits, AnswersFit, ReplyFits}
+use Rattle.tasks.specs.declared.Answer.{Answer}
 
 -- ---- Ranges
 
@@ -146,7 +144,7 @@ module _ (set : Settings) (S : SettingsIn set) (pool : List ℕ) (A : AllBytes p
   receives : (q : RxTask) (code spacing : ℕ) → q.token < 2 ^ 32 → q.buffer < n → PartIn n (part_of code (rx_task q) 0 spacing 0)
   receives q code spacing t b = (t, b, omega arith, omega arith, omega arith)
 
-  to : {action : Action} {k : AckSeqNum} (w : Wait) (x : Answers) → ActionFits action → WaitIn n w → AnswersFit x → MoveIn (move_to set w action x k)
+  to : {action : Action} {k : Option ℕ} (w : Wait) (x : Answers) → ActionFits action → WaitIn n w → AnswersFit x → MoveIn (move_to set w action x k)
   to w x a W F = record { state = record { set = S; wait = W }; reply = record { action = a; answers = F } }
 
   module _ (w : Wait) (W : WaitIn n w) where
@@ -185,7 +183,7 @@ module _ (set : Settings) (S : SettingsIn set) (pool : List ℕ) (A : AllBytes p
   tx_in q frame B t b l =
       let fc = frame_control_of (get_or frame 0 0) (get_or frame 1 0) in go (leb 3 (length frame) && (fc.ack_request && not fc.sequence_number_suppression))
     where
-      go : (f : Bool) → PartIn n (tx_part q (cond f (AckSeqNum.Is (get_or frame 2 0)) AckSeqNum.None))
+      go : (f : Bool) → PartIn n (tx_part q (cond f (Some (get_or frame 2 0)) None))
       go true = (t, b, l, byte_at frame B 2, omega arith)
       go false = (t, b, l, omega arith, omega arith)
 
@@ -197,7 +195,7 @@ module _ (set : Settings) (S : SettingsIn set) (pool : List ℕ) (A : AllBytes p
       (omega (arith, ltb-false 127 (l + set.fcs_length) long))
   next_in q Task.Rx t b h = (t, b, omega arith, omega arith, omega arith)
 
-  action_in : (q : Request) (spacing : NextTaskIfs) (task : Task) → TimestampFits q.start → tx_length_unfit set task ≡ false → ActionFits (request_action q spacing task)
+  action_in : (q : Request) (spacing : Option Ifs) (task : Task) → TimestampFits q.start → tx_length_unfit set task ≡ false → ActionFits (request_action q spacing task)
   unfolding request_action tx_length_unfit
   action_in q spacing (Task.Tx l cca) t h =
       (omega (arith, ltb-false 127 (l + set.fcs_length) (neither (ltb l 3) (ltb 127 (l + set.fcs_length)) h).1), t)
@@ -270,15 +268,15 @@ module _ (set : Settings) (S : SettingsIn set) (pool : List ℕ) (A : AllBytes p
 
   arrive_in : (m : Next) (x : Answers) → PartIn n (next_part m) → AnswersFit x → MoveIn (arrival_of set x m)
   unfolding arrival_of sending_move next_part tx_part wait_parts_of transition_parts asked_part
-  arrive_in (Next.Tx q (AckSeqNum.Is k)) x K F = to (Wait.Entering (Transition.AckWait q k)) x tt (K, nothing 0 0) F
-  arrive_in (Next.Tx q AckSeqNum.None) x K F = to (Wait.Asking (Asked.Sending q)) x tt (K, nothing 0 0) F
+  arrive_in (Next.Tx q (Some k)) x K F = to (Wait.Entering (Transition.AckWait q k)) x tt (K, nothing 0 0) F
+  arrive_in (Next.Tx q None) x K F = to (Wait.Asking (Asked.Sending q)) x tt (K, nothing 0 0) F
   arrive_in (Next.Rx q) x K F = to (Wait.Listening q) x tt (K, nothing 0 0) F
   arrive_in Next.Off x K F = to (Wait.Asking Asked.Idle) x tt (nothing 0 0, nothing 0 0) F
 
-  then_in : (q : TxTask) (cause : Cause) (x : Owed) → q.token < 2 ^ 32 → CauseFits cause → AnswersFit (answers_of x) → AnswersFit (then_error q cause x)
+  then_in : (q : TxTask) (cause : Cause) (x : Option Answer) → q.token < 2 ^ 32 → CauseFits cause → AnswersFit (answers_of x) → AnswersFit (then_error q cause x)
   unfolding then_error answers_of
-  then_in q cause Owed.None t C F = record { token = t; response = C }
-  then_in q cause (Owed.One a) t C F = (F, record { token = t; response = C })
+  then_in q cause None t C F = record { token = t; response = C }
+  then_in q cause (Some a) t C F = (F, record { token = t; response = C })
 
   entered_in : (e : Transition) (r : TaskResult) (entry : ℕ) → WaitIn n (Wait.Entering e) → ResultIn r → MoveIn (entered_of (state_at set (Wait.Entering e)) pool r entry e)
   unfolding entered_of request_entered rearm_entered ack_turn_entered ack_wait_entered ack_wait_started latest_ack_start_of leave_of leave_receiving wait_parts_of transition_parts asked_part stop_part left_part
@@ -302,7 +300,7 @@ module _ (set : Settings) (S : SettingsIn set) (pool : List ℕ) (A : AllBytes p
   entered_in (Transition.AckWait q k) (TaskResult.Sent t) entry W R = go (ltb (entry + 10000) (2 ^ 64)) refl
     where
       go : (f : Bool) → ltb (entry + 10000) (2 ^ 64) ≡ f
-          → MoveIn (ack_wait_started (state_at set (Wait.Entering (Transition.AckWait q k))) (record { task = q; number = k; time = t }) (cond f (LatestAckStart.At (entry + 10000)) LatestAckStart.Exceeds))
+          → MoveIn (ack_wait_started (state_at set (Wait.Entering (Transition.AckWait q k))) (record { task = q; number = k; time = t }) (cond f (Some (entry + 10000)) None))
       go true u =
           to (Wait.Stopping (Stop.Ack (record { task = q; number = k; time = t }))) Answers.None (ltb-true (entry + 10000) (2 ^ 64) u) ((W.0.0, W.0.1, W.0.2, W.0.3, R), nothing 0 0) tt
       go false u = refuse (Wait.Entering (Transition.AckWait q k)) W 11
@@ -310,11 +308,11 @@ module _ (set : Settings) (S : SettingsIn set) (pool : List ℕ) (A : AllBytes p
 
   fell_back_in : (e : Transition) (r : TaskResult) (cause : Cause) → WaitIn n (Wait.Entering e) → ResultIn r → CauseFits cause → MoveIn (fell_back_of (state_at set (Wait.Entering e)) pool r cause e)
   unfolding fell_back_of request_fell_back wait_parts_of transition_parts next_part tx_part asked_part
-  fell_back_in (Transition.Request l (Next.Tx q AckSeqNum.None)) r cause W R C =
-      guard (Wait.Entering (Transition.Request l (Next.Tx q AckSeqNum.None))) W _ _
+  fell_back_in (Transition.Request l (Next.Tx q None)) r cause W R C =
+      guard (Wait.Entering (Transition.Request l (Next.Tx q None))) W _ _
       (λ ok. to (Wait.Asking Asked.Idle) _ tt (nothing 0 0, nothing 0 0) (then_in q cause _ W.1.0 C (leave_in l r W.0 R ok)))
-  fell_back_in (Transition.Request l (Next.Tx q (AckSeqNum.Is k))) r cause W R C =
-      guard (Wait.Entering (Transition.Request l (Next.Tx q (AckSeqNum.Is k)))) W _ _
+  fell_back_in (Transition.Request l (Next.Tx q (Some k))) r cause W R C =
+      guard (Wait.Entering (Transition.Request l (Next.Tx q (Some k)))) W _ _
       (λ ok. to (Wait.Asking Asked.Idle) _ tt (nothing 0 0, nothing 0 0) (then_in q cause _ W.1.0 C (leave_in l r W.0 R ok)))
   fell_back_in (Transition.Request l (Next.Rx q)) r cause W R C = refuse (Wait.Entering (Transition.Request l (Next.Rx q))) W 5
   fell_back_in (Transition.Request l Next.Off) r cause W R C = refuse (Wait.Entering (Transition.Request l Next.Off)) W 5
@@ -397,10 +395,10 @@ module _ (set : Settings) (S : SettingsIn set) (pool : List ℕ) (A : AllBytes p
   stopping_in p (Call.Fallback r cause) W = refuse (Wait.Stopping p) W 5
   stopping_in p Call.Rollback W = refuse (Wait.Stopping p) W 5
 
-  receive_in : (q : RxTask) (i : Ifs) (k : AckSeqNum) → WaitIn n (Wait.Reading q) → MoveIn (receive_move set q i k)
+  receive_in : (q : RxTask) (i : Ifs) (k : Option ℕ) → WaitIn n (Wait.Reading q) → MoveIn (receive_move set q i k)
   unfolding receive_move wait_parts_of transition_parts asked_part
-  receive_in q i (AckSeqNum.Is k) W = to (Wait.Entering (Transition.AckTurn q i)) Answers.None (omega arith, tt) (W.0, nothing 0 0) tt
-  receive_in q i AckSeqNum.None W = to (Wait.Asking (Asked.Receiving q i)) Answers.None tt (W.0, nothing 0 0) tt
+  receive_in q i (Some k) W = to (Wait.Entering (Transition.AckTurn q i)) Answers.None (omega arith, tt) (W.0, nothing 0 0) tt
+  receive_in q i None W = to (Wait.Asking (Asked.Receiving q i)) Answers.None tt (W.0, nothing 0 0) tt
 
   reading_in : (q : RxTask) (c : Call) → WaitIn n (Wait.Reading q) → MoveIn (reading_of (state_at set (Wait.Reading q)) pool q c)
   unfolding reading_of header_of header_move_of wait_parts_of transition_parts
@@ -414,7 +412,7 @@ module _ (set : Settings) (S : SettingsIn set) (pool : List ℕ) (A : AllBytes p
       facts : PreliminaryFrameInfo
       facts = info_of (take arrived (drop (frame_start set q.buffer) pool))
 
-      go : (f : Bool) (k : AckSeqNum) → MoveIn (cond f (receive_move set q (ifs_of length) k) (rearm_move set q))
+      go : (f : Bool) (k : Option ℕ) → MoveIn (cond f (receive_move set q (ifs_of length) k) (rearm_move set q))
       go true k = receive_in q (ifs_of length) k W
       go false k = to (Wait.Entering (Transition.Rearm q)) Answers.None tt (W.0, nothing 0 0) tt
   reading_in q (Call.Entered r entry) W = refuse (Wait.Reading q) W 5

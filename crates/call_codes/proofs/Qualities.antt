@@ -2,12 +2,13 @@
 -- Assumes nothing.
 use Prim.Native.Nat.{ℕ, zero, suc, ◌<◌}
 use mathlib.Core.Path.{◌≡◌, refl, ap}
-use mathlib.Core.Bool.{Bool, true, false, ◌&&◌}
+use mathlib.Core.Bool.{true, false}
 use mathlib.Core.List.{[], ◌∷◌}
 use lib.Dec.{ltb}
 use lib.ListN.{get_or}
 use native.Mathlib.Omega.{arith}
 use borrow.Author.Tests.{ltb-true}
+use Rattle.std.proofs.lemmas.Bool.{and_parts}
 use Rattle.tasks.specs.declared.Call.{Call}
 use Rattle.tasks.specs.declared.StopResult.{StopResult}
 use Rattle.tasks.specs.declared.TaskResult.{TaskResult}
@@ -15,20 +16,16 @@ use Rattle.call_codes.specs.declared.ExportedCall.{ExportedCall}
 use Rattle.call_codes.specs.Codes.{stop_of, result_of, cause_table, cause_of, known, known_of, call_of, uses_quality, UnusedQualityIgnored}
 
 pub differ : {A : Type 0} → true ≡ false → A
-differ e = let z : ◌≡◌ {A = ℕ} 1 0 = ap flag e in absurd (omega arith)
-  where
-    flag : Bool → ℕ
-    flag true = 1
-    flag false = 0
+differ e = cc
 
 -- two tables of five cases that agree in those whose codes leave the quality unused
 unused_same : {A : Type 0} (a b c d e c' e' last last' : A) (code : ℕ) → ltb code 5 ≡ true → uses_quality code ≡ false
     → get_or (a ∷ b ∷ c ∷ d ∷ e ∷ []) code last ≡ get_or (a ∷ b ∷ c' ∷ d ∷ e' ∷ []) code last'
 unused_same a b c d e c' e' last last' zero h u = refl
 unused_same a b c d e c' e' last last' (suc zero) h u = refl
-unused_same a b c d e c' e' last last' (suc (suc zero)) h u = differ u
+unused_same a b c d e c' e' last last' (suc (suc zero)) h u = cc
 unused_same a b c d e c' e' last last' (suc (suc (suc zero))) h u = refl
-unused_same a b c d e c' e' last last' (suc (suc (suc (suc zero)))) h u = differ u
+unused_same a b c d e c' e' last last' (suc (suc (suc (suc zero)))) h u = cc
 unused_same a b c d e c' e' last last' (suc (suc (suc (suc (suc n))))) h u =
     let z : suc (suc (suc (suc (suc n)))) < 5 = ltb-true _ _ h in absurd (omega arith)
 
@@ -39,10 +36,6 @@ stop_ignores length time k j code h u = unused_same _ _ _ _ _ _ _ _ _ code h u
 result_ignores : (length time k j code : ℕ) → ltb code 5 ≡ true → uses_quality code ≡ false → result_of length time k code ≡ result_of length time j code
 unfolding result_of
 result_ignores length time k j code h u = unused_same _ _ _ _ _ _ _ _ _ code h u
-
-left : (a b : Bool) → a && b ≡ true → a ≡ true
-left true b h = refl
-left false b h = h
 
 pub unused_quality_ignored : UnusedQualityIgnored
 unfolding known_of call_of
@@ -57,5 +50,5 @@ unused_quality_ignored (ExportedCall.Entered result length time entry j) k h u =
     ap (λ (r : TaskResult). Call.Entered r entry) (result_ignores length time k j result h u)
 unused_quality_ignored (ExportedCall.Fallback result length time cause causeTime j) k h u =
     ap (λ (r : TaskResult). Call.Fallback r (cause_of causeTime cause))
-    (result_ignores length time k j result (left (ltb result 5) (known (cause_table causeTime) cause) h) u)
+    (result_ignores length time k j result (and_parts (ltb result 5) (known (cause_table causeTime) cause) h).0 u)
 unused_quality_ignored ExportedCall.Rollback k h u = refl

@@ -1,6 +1,6 @@
 -- What the numbers of an exported call stand for: docs/LAYOUTS.md, "Codes of the numbers".
 -- Assumes nothing.
-use Rattle.std.specs.Prelude.{ℕ, ◌≡◌, Bool, true, false, ◌&&◌, ◌||◌, List, [], ◌∷◌, ltb, eqb, get_or, length}
+use Rattle.std.specs.Prelude.{ℕ, ◌≡◌, Bool, true, false, ◌&&◌, ◌||◌, List, [], ◌∷◌, ltb, eqb, get_or, length, Option, Some, None}
 use Rattle.radio_frame.specs.declared.Settings.{Settings}
 use Rattle.tasks.specs.declared.Call.{Call}
 use Rattle.tasks.specs.declared.Cause.{Cause}
@@ -28,6 +28,14 @@ task_table length cca = Task.Tx length (eqb cca 1) ∷ Task.Rx ∷ []
 
 unfoldable pub task_of : ℕ → ℕ → ℕ → Task
 task_of length cca code = get_or (task_table length cca) code Task.Rx
+
+-- of outcome and result alike: 2 a frame, 3 "window ended", 4 a CRC error
+unfoldable pub received_of : ℕ → ℕ → ℕ → ℕ → Option RxResult
+received_of length time quality code =
+    get_or
+    (None ∷ None ∷ Some (RxResult.Frame length time quality) ∷ Some RxResult.RxWindowEnded ∷ Some (RxResult.CrcError time quality) ∷ [])
+    code
+    None
 
 -- outcome: "0 frame started, 1 failed, 2 window ended with a frame, 3 .. with "window ended", 4 .. with a CRC error"
 abbrev pub stop_table : ℕ → ℕ → ℕ → List StopResult

@@ -1,8 +1,8 @@
 // What the numbers of an exported call stand for (docs/LAYOUTS.md, "Codes of the numbers").
 #![tactic(auto)]
 
-ghost use Rattle.std.specs.Prelude.{◌≡◌};
-ghost use Rattle.call_codes.specs.Codes.{timestamp_of, task_of, stop_of, result_of, cause_of, known_of, call_of, settings_of};
+ghost use Rattle.std.specs.Prelude.{◌≡◌, ◌&&◌, ◌||◌, cond, eqb, Some, None};
+ghost use Rattle.call_codes.specs.Codes.{timestamp_table, timestamp_of, task_table, task_of, received_of, stop_table, stop_of, result_table, result_of, cause_table, cause_of, known, known_flag, known_of, call_of, settings_of};
 
 use radio_frame::Settings;
 use tasks::{Call, Cause, Request, RxResult, StopResult, Task, TaskResult, Timestamp};
@@ -35,130 +35,142 @@ pub struct StartNumbers {
     pub spare_buffer: u8,
 }
 
-// ---- What the codes stand for
+// ---- What the codes stand for; a code past the end of its table stands for nothing
 
-fn timestamp_of(code: u8, time: u64) -> Timestamp
-    ensures { result ≡ timestamp_of time code }
+fn flag_of(code: u8) -> Option<bool>
+    ensures { result ≡ cond (known_flag code) (Some (eqb code 1)) None }
 {
     match code {
-        0 => Timestamp::BestEffort,
-        _ => Timestamp::Scheduled(time),
+        0 => Some(false),
+        1 => Some(true),
+        _ => None,
     }
 }
 
-fn task_of(code: u8, length: u16, cca: u8) -> Task
-    ensures { result ≡ task_of length cca code }
+#[tactic(auto, unfolding(crate::specs::Codes::timestamp_of))]
+fn timestamp_of(code: u8, time: u64) -> Option<Timestamp>
+    ensures { result ≡ cond (known (timestamp_table time) code) (Some (timestamp_of time code)) None }
 {
     match code {
-        0 => Task::Tx(length, cca == 1),
-        _ => Task::Rx,
+        0 => Some(Timestamp::BestEffort),
+        1 => Some(Timestamp::Scheduled(time)),
+        _ => None,
     }
 }
 
-fn stop_of(code: u8, length: u16, time: u64, quality: u8) -> StopResult
-    ensures { result ≡ stop_of length time quality code }
+// An Rx leaves the flag unused.
+#[tactic(auto, unfolding(crate::specs::Codes::task_of))]
+fn task_of(code: u8, length: u16, cca: u8) -> Option<Task>
+    ensures { result ≡ cond (known (task_table length cca) code && (eqb code 1 || known_flag cca)) (Some (task_of length cca code)) None }
 {
     match code {
-        0 => StopResult::FrameStarted,
-        1 => StopResult::Failed,
-        2 => StopResult::RxWindowEnded(RxResult::Frame(length, time, quality)),
-        3 => StopResult::RxWindowEnded(RxResult::RxWindowEnded),
-        _ => StopResult::RxWindowEnded(RxResult::CrcError(time, quality)),
+        0 => Some(Task::Tx(length, flag_of(cca)?)),
+        1 => Some(Task::Rx),
+        _ => None,
     }
 }
 
-fn result_of(code: u8, length: u16, time: u64, quality: u8) -> TaskResult
-    ensures { result ≡ result_of length time quality code }
+// What a receive task came to, of outcomes and results alike.
+#[tactic(auto, unfolding(crate::specs::Codes::received_of))]
+fn received_of(code: u8, length: u16, time: u64, quality: u8) -> Option<RxResult>
+    ensures { result ≡ received_of length time quality code }
 {
     match code {
-        0 => TaskResult::Off,
-        1 => TaskResult::Sent(time),
-        2 => TaskResult::Rx(RxResult::Frame(length, time, quality)),
-        3 => TaskResult::Rx(RxResult::RxWindowEnded),
-        _ => TaskResult::Rx(RxResult::CrcError(time, quality)),
+        2 => Some(RxResult::Frame(length, time, quality)),
+        3 => Some(RxResult::RxWindowEnded),
+        4 => Some(RxResult::CrcError(time, quality)),
+        _ => None,
     }
 }
 
-fn cause_of(code: u8, time: u64) -> Cause
-    ensures { result ≡ cause_of time code }
+#[tactic(auto, unfolding(crate::specs::Codes::stop_of, crate::specs::Codes::received_of))]
+fn stop_of(code: u8, length: u16, time: u64, quality: u8) -> Option<StopResult>
+    ensures { result ≡ cond (known (stop_table length time quality) code) (Some (stop_of length time quality code)) None }
 {
     match code {
-        0 => Cause::Scheduling(Timestamp::BestEffort),
-        1 => Cause::Scheduling(Timestamp::Scheduled(time)),
-        _ => Cause::Task,
+        0 => Some(StopResult::FrameStarted),
+        1 => Some(StopResult::Failed),
+        _ => Some(StopResult::RxWindowEnded(received_of(code, length, time, quality)?)),
     }
 }
 
-// Whether all codes that the call uses stand for something.
-pub fn is_known(x: ExportedCall) -> bool
-    ensures { result ≡ known_of x }
+#[tactic(auto, unfolding(crate::specs::Codes::result_of, crate::specs::Codes::received_of))]
+fn result_of(code: u8, length: u16, time: u64, quality: u8) -> Option<TaskResult>
+    ensures { result ≡ cond (known (result_table length time quality) code) (Some (result_of length time quality code)) None }
 {
-    match x {
-        ExportedCall::Request(token, direction, start, time, buffer, length, cca) => util::both(
-            start < 2,
-            util::both(direction < 2, util::either(direction == 1, cca < 2)),
-        ),
-        ExportedCall::None => true,
-        ExportedCall::FrameStart => true,
-        ExportedCall::OutboundSeen(start, time, cca) => util::both(start < 2, cca < 2),
-        ExportedCall::Stopped(outcome, length, time, quality) => outcome < 5,
-        ExportedCall::Header(arrived, length) => true,
-        ExportedCall::Entered(result, length, time, entry, quality) => result < 5,
-        ExportedCall::Fallback(result, length, time, cause, cause_time, quality) => util::both(
-            result < 5,
-            cause < 3,
-        ),
-        ExportedCall::Rollback => true,
+    match code {
+        0 => Some(TaskResult::Off),
+        1 => Some(TaskResult::Sent(time)),
+        _ => Some(TaskResult::Rx(received_of(code, length, time, quality)?)),
     }
 }
 
-// The engine's call.
-pub fn call_of(x: ExportedCall) -> Call
-    ensures { result ≡ call_of x }
+#[tactic(auto, unfolding(crate::specs::Codes::cause_of))]
+fn cause_of(code: u8, time: u64) -> Option<Cause>
+    ensures { result ≡ cond (known (cause_table time) code) (Some (cause_of time code)) None }
 {
-    match x {
-        ExportedCall::Request(token, direction, start, time, buffer, length, cca) => Call::Request(
-            Request {
-                token: token,
-                start: timestamp_of(start, time),
-                buffer: buffer,
-                task: task_of(direction, length, cca),
-            },
-        ),
-        ExportedCall::None => Call::None,
-        ExportedCall::FrameStart => Call::FrameStart,
-        ExportedCall::OutboundSeen(start, time, cca) => Call::OutboundSeen(
-            timestamp_of(start, time),
-            cca == 1,
-        ),
-        ExportedCall::Stopped(outcome, length, time, quality) => Call::Stopped(stop_of(
-            outcome, length, time, quality,
-        )),
-        ExportedCall::Header(arrived, length) => Call::Header(arrived, length),
-        ExportedCall::Entered(result, length, time, entry, quality) => Call::Entered(
-            result_of(result, length, time, quality),
-            entry,
-        ),
-        ExportedCall::Fallback(result, length, time, cause, cause_time, quality) => Call::Fallback(
-            result_of(result, length, time, quality),
-            cause_of(cause, cause_time),
-        ),
-        ExportedCall::Rollback => Call::Rollback,
+    match code {
+        0 => Some(Cause::Scheduling(Timestamp::BestEffort)),
+        1 => Some(Cause::Scheduling(Timestamp::Scheduled(time))),
+        2 => Some(Cause::Task),
+        _ => None,
     }
 }
 
-pub fn settings_of(n: StartNumbers) -> Settings
-    ensures { result ≡ settings_of n }
-{
-    Settings {
-        count: n.count,
-        headroom: n.headroom,
-        tailroom: n.tailroom,
-        fcs_length: n.fcs_length,
-        hardware_addr: n.hardware_addr,
-        pan_id: n.pan_id,
-        implicit_broadcast: n.implicit_broadcast == 1,
-        ack_buffer: n.ack_buffer,
-        spare_buffer: n.spare_buffer,
+impl ExportedCall {
+    // The engine's call, if all codes that the call uses stand for something.
+    #[tactic(auto, unfolding(crate::specs::Codes::known_of, crate::specs::Codes::call_of))]
+    pub fn call(self) -> Option<Call>
+        ensures { result ≡ cond (known_of self) (Some (call_of self)) None }
+    {
+        Some(match self {
+            ExportedCall::Request(token, direction, start, time, buffer, length, cca) =>
+                Call::Request(Request {
+                    token,
+                    start: timestamp_of(start, time)?,
+                    buffer,
+                    task: task_of(direction, length, cca)?,
+                }),
+            ExportedCall::None => Call::None,
+            ExportedCall::FrameStart => Call::FrameStart,
+            ExportedCall::OutboundSeen(start, time, cca) => Call::OutboundSeen(
+                timestamp_of(start, time)?,
+                flag_of(cca)?,
+            ),
+            ExportedCall::Stopped(outcome, length, time, quality) => Call::Stopped(stop_of(
+                outcome, length, time, quality,
+            )?),
+            ExportedCall::Header(arrived, length) => Call::Header(arrived, length),
+            ExportedCall::Entered(result, length, time, entry, quality) => Call::Entered(
+                result_of(result, length, time, quality)?,
+                entry,
+            ),
+            ExportedCall::Fallback(result, length, time, cause, cause_time, quality) =>
+                Call::Fallback(
+                    result_of(result, length, time, quality)?,
+                    cause_of(cause, cause_time)?,
+                ),
+            ExportedCall::Rollback => Call::Rollback,
+        })
+    }
+}
+
+impl StartNumbers {
+    // The settings; an implicit broadcast that stands for nothing is read as 0, since its refusal comes after others of the settings.
+    #[tactic(auto, unfolding(crate::specs::Codes::settings_of))]
+    pub fn settings(self) -> Settings
+        ensures { result ≡ settings_of self }
+    {
+        Settings {
+            count: self.count,
+            headroom: self.headroom,
+            tailroom: self.tailroom,
+            fcs_length: self.fcs_length,
+            hardware_addr: self.hardware_addr,
+            pan_id: self.pan_id,
+            implicit_broadcast: self.implicit_broadcast == 1,
+            ack_buffer: self.ack_buffer,
+            spare_buffer: self.spare_buffer,
+        }
     }
 }

@@ -1,5 +1,14 @@
 -- The promises of a call and of a start, from what they return and write.
 -- Assumes nothing.
+use Rattle.tasks.specs.declared.Answers.{Answers}
+use Rattle.refusals.specs.declared.Refusal.{Refusal}
+use Rattle.refusals.specs.Refusals.{refusal_number}
+use Rattle.refusals.proofs.Refusals.{not_zero}
+use Rattle.moves.specs.declared.Accepted.{Accepted}
+use Rattle.moves.specs.Move.{made, to_idle, refused_of}
+use Rattle.ack.specs.Ack.{imm_ack_frame_at}
+use Rattle.radio_frame.specs.RadioFrame.{frame_start}
+use Rattle.driver.specs.Promises.{idle_of}
 use Prim.Native.Nat.{ℕ}
 use mathlib.Core.Path.{◌≡◌, refl, sym, ◌∙◌, ap}
 use mathlib.Core.Bool.{Bool, true, false, cond}
@@ -14,7 +23,7 @@ use Rattle.moves.specs.Move.{guarded_of}
 use Rattle.tasks.specs.declared.Action.{Action}
 use Rattle.tasks.specs.declared.Call.{Call}
 use Rattle.tasks.specs.declared.State.{State}
-use Rattle.engine.specs.declared.Outcome.{Outcome}
+use Rattle.engine.specs.Step.{Outcome, outcome_of}
 use Rattle.engine.specs.Step.{step_of, step_pool, start_of, start_pool}
 use Rattle.engine.specs.Refusals.{InOrder, RefusedUnchanged, Unchanged, no_reply}
 use Rattle.engine.specs.Actions.{AcceptedActs}
@@ -80,3 +89,15 @@ start_promises set pool r written e w =
       acts = λ z. waits_for_request _ (ap (λ (o : Outcome). o.reply.action) e ∙ cases.2 (sym refuses ∙ z));
       always_sound = rw e (history set pool);
     }
+
+-- ---- What a start returns and writes is the definitions': it is accepted where nothing refuses, and else refused with nothing written.
+module _ (set : Settings) (pool : List ℕ) where
+  pub started : (m : Accepted) (written : List ℕ) → 0 ≡ settings_refusal set (length pool) → made m ≡ to_idle set Answers.None
+      → written ≡ imm_ack_frame_at pool (frame_start set set.ack_buffer) → Started set pool (outcome_of (made m)) written
+  unfolding start_of guarded_of start_pool
+  started m written e f w = start_promises set pool _ _ (rw (sym e) (ap outcome_of f)) (rw (sym e) w)
+
+  pub start_refused : (refusal : Refusal) → refusal_number refusal ≡ settings_refusal set (length pool)
+      → Started set pool (outcome_of (refused_of (idle_of set) (refusal_number refusal))) pool
+  unfolding start_of guarded_of start_pool
+  start_refused refusal e = start_promises set pool _ _ (rw (sym e, not_zero refusal) refl) (rw (sym e, not_zero refusal) refl)

@@ -7,8 +7,9 @@ use Rattle.radio_frame.specs.Settings.{settings_refusal}
 use Rattle.tasks.specs.declared.Action.{Action}
 use Rattle.tasks.specs.declared.Call.{Call}
 use Rattle.tasks.specs.declared.State.{State}
-use Rattle.engine.specs.declared.Outcome.{Outcome}
-use Rattle.engine.specs.Step.{step_of, step_pool, start_of, start_pool}
+use Rattle.tasks.specs.declared.Asked.{Asked}
+use Rattle.tasks.specs.declared.Wait.{Wait}
+use Rattle.engine.specs.Step.{Outcome, step_of, step_pool, start_of, start_pool}
 use Rattle.engine.specs.Refusals.{refusal_of, no_reply}
 use Rattle.engine.specs.Reasons.{Reasons, AllCarryTold}
 use Rattle.engine.specs.Actions.{ActsRight}
@@ -33,6 +34,10 @@ pub record Stepped (s : State) (pool : List ℕ) (c : Call) (r : Outcome) (writt
   pub qualities : AllCarryTold c r.reply.answers
   -- a received frame is acknowledged exactly where it is due: E4, a broadcast never
   pub ack_turns : AckTurns s pool c r written
+
+-- the state that an accepted start returns; a refused one returns none
+abbrev pub idle_of : Settings → State
+idle_of set = record { set = set; wait = Wait.Asking Asked.Idle }
 
 -- a start
 pub record Started (set : Settings) (pool : List ℕ) (r : Outcome) (written : List ℕ) : Type 0 where

@@ -2,32 +2,21 @@
 #![tactic(auto)]
 
 ghost use Rattle.std.specs.Prelude.{◌≡◌};
-ghost use Rattle.engine.specs.Step.{wait_move, move_of, outcome_of, written_by, start_pool};
-ghost use Rattle.driver.specs.Promises.{Stepped, Started};
+ghost use Rattle.moves.specs.Move.{told};
+ghost use Rattle.engine.specs.Step.{wait_move, move_of, outcome_told, written_by};
+ghost use Rattle.driver.specs.Promises.{Stepped, Started, idle_of};
 
-use engine::Outcome;
-use moves::Move;
-use radio_frame::{AckSeqNum, Settings};
-use tasks::{Answers, Asked, Call, Reply, State, Wait};
-
-pub fn outcome_of(m: Move) -> Outcome
-    ensures { result ≡ outcome_of m }
-{
-    let state = m.state;
-    let reply = m.reply;
-    Outcome {
-        refusal: m.refusal,
-        state: state,
-        reply: reply,
-    }
-}
+use moves::Accepted;
+use radio_frame::Settings;
+use refusals::Refusal;
+use tasks::{Answers, Call, Reply, State, Wait};
 
 // What the wait does with the call.
-fn wait_move(s: State, pool: &[u8], c: Call) -> Move
-    ensures { result ≡ wait_move s pool.now c s.wait }
+#[tactic(auto, unfolding(engine::specs::Step::wait_move))]
+fn wait_move(s: State, pool: &[u8], c: Call) -> Result<Accepted, Refusal>
+    ensures { told s result ≡ wait_move s pool.now c s.wait }
 {
-    let w = s.wait;
-    match w {
+    match s.wait {
         Wait::Asking(a) => asking::asking(s, pool, a, c),
         Wait::Entering(e) => entering::entering(s, pool, e, c),
         Wait::Listening(q) => listening::listening(s, q, c),
@@ -37,60 +26,42 @@ fn wait_move(s: State, pool: &[u8], c: Call) -> Move
 }
 
 // Refusals 2 to 4 before all others.
-fn checked_move(s: State, pool: &[u8], c: Call) -> Move
-    ensures { result ≡ move_of s pool.now c }
+#[tactic(auto, unfolding(engine::specs::Step::move_of, moves::specs::Move::guarded_of))]
+fn checked_move(s: State, pool: &[u8], c: Call) -> Result<Accepted, Refusal>
+    ensures { told s result ≡ move_of s pool.now c }
 {
-    let set = s.set;
-    moves::guarded(
-        s,
-        radio_frame::settings_refusal(set, pool.len()),
-        wait_move(s, pool, c),
-    )
+    radio_frame::check_settings(s.set, pool.len())?;
+    wait_move(s, pool, c)
 }
 
 // Writes the number of an acknowledgement into the ACK buffer's frame, if there is one to write.
-fn write_number(set: Settings, pool: &mut [u8], number: AckSeqNum)
+#[tactic(auto, unfolding(engine::specs::Step::written_by))]
+fn write_number(set: Settings, pool: &mut [u8], number: Option<u8>)
     ensures { pool.new ≡ written_by set pool.old number }
 {
-    match number {
-        AckSeqNum::Is(k) => {
-            let at = radio_frame::frame_start(set, set.ack_buffer);
-            ack::set_sequence_number(pool, at, k);
-        }
-        AckSeqNum::None => {}
-    }
-}
-
-// One call on a state and the pool.
-pub fn step(s: State, pool: &mut [u8], c: Call) -> Outcome
-    ensures { Stepped s pool.old c result pool.new }
-{
-    let set = s.set;
-    let m = checked_move(s, pool, c);
-    let number = m.number;
-    write_number(set, pool, number);
-    outcome_of(m)
-}
-
-// The acknowledgement in its buffer, where the settings are accepted.
-fn write_ack(set: Settings, pool: &mut [u8])
-    ensures { pool.new ≡ start_pool set pool.old }
-{
-    if radio_frame::settings_refusal(set, pool.len()) == 0 {
+    if let Some(k) = number {
         let at = radio_frame::frame_start(set, set.ack_buffer);
-        ack::imm_ack_frame(pool, at);
+        ack::set_sequence_number(pool, at, k);
     }
 }
 
-// The idle state of the settings, unless they are refused; on every list of calls that follows, the book is sound.
-pub fn start(set: Settings, pool: &mut [u8]) -> Outcome
-    ensures { Started set pool.old result pool.new }
+// One call on a state and the pool: the next state and the reply.
+pub fn step(s: State, pool: &mut [u8], c: Call) -> Result<(State, Reply), Refusal>
+    ensures { Stepped s pool.old c (outcome_told s result) pool.new }
 {
-    let refusal = radio_frame::settings_refusal(set, pool.len());
-    write_ack(set, pool);
-    let idle = State {
-        set: set,
-        wait: Wait::Asking(Asked::Idle),
-    };
-    outcome_of(moves::guarded(idle, refusal, moves::to_idle(set, Answers::None)))
+    let m = checked_move(s, pool, c)?;
+    write_number(s.set, pool, m.number);
+    Ok((m.state, m.reply))
+}
+
+// The acknowledgement in its buffer, and the idle state of the settings, unless they are refused; on every list of calls that
+// follows, the book is sound.
+pub fn start(set: Settings, pool: &mut [u8]) -> Result<(State, Reply), Refusal>
+    ensures { Started set pool.old (outcome_told (idle_of set) result) pool.new }
+{
+    radio_frame::check_settings(set, pool.len())?;
+    let at = radio_frame::frame_start(set, set.ack_buffer);
+    ack::imm_ack_frame(pool, at);
+    let m = moves::to_idle(set, Answers::None);
+    Ok((m.state, m.reply))
 }

@@ -1,4 +1,4 @@
-// The driver service as C functions on numbers and byte slices: docs/LAYOUTS.md.
+// The driver service as C functions on numbers and byte slices: docs/LAYOUTS.md. C calls one function for each kind of call.
 #![tactic(auto)]
 
 ghost use Rattle.std.specs.Prelude.{◌≡◌};
@@ -25,22 +25,22 @@ pub extern "C" fn widosha_start(
 ) -> u8
     ensures { StartCalled (record { count = count; headroom = headroom; tailroom = tailroom; fcs_length = fcs_length; hardware_addr = hardware_addr; pan_id = pan_id; implicit_broadcast = implicit_broadcast; ack_buffer = ack_buffer; spare_buffer = spare_buffer }) state.old reply.old pool.old result state.new reply.new pool.new }
 {
-    exported::start(
+    refusals::number(exported::start(
         StartNumbers {
-            count: count,
-            headroom: headroom,
-            tailroom: tailroom,
-            fcs_length: fcs_length,
-            hardware_addr: hardware_addr,
-            pan_id: pan_id,
-            implicit_broadcast: implicit_broadcast,
-            ack_buffer: ack_buffer,
-            spare_buffer: spare_buffer,
+            count,
+            headroom,
+            tailroom,
+            fcs_length,
+            hardware_addr,
+            pan_id,
+            implicit_broadcast,
+            ack_buffer,
+            spare_buffer,
         },
         state,
         reply,
         pool,
-    )
+    ))
 }
 
 #[unsafe(no_mangle)]
@@ -58,26 +58,26 @@ pub extern "C" fn widosha_request(
 ) -> u8
     ensures { Called state.old reply.old pool.old (ExportedCall.Request token direction start time buffer length cca) result state.new reply.new pool.new }
 {
-    exported::call(
+    refusals::number(exported::call(
         state,
         reply,
         pool,
         ExportedCall::Request(token, direction, start, time, buffer, length, cca),
-    )
+    ))
 }
 
 #[unsafe(no_mangle)]
 pub extern "C" fn widosha_none(state: &mut [u8], reply: &mut [u8], pool: &mut [u8]) -> u8
     ensures { Called state.old reply.old pool.old ExportedCall.None result state.new reply.new pool.new }
 {
-    exported::call(state, reply, pool, ExportedCall::None)
+    refusals::number(exported::call(state, reply, pool, ExportedCall::None))
 }
 
 #[unsafe(no_mangle)]
 pub extern "C" fn widosha_frame_start(state: &mut [u8], reply: &mut [u8], pool: &mut [u8]) -> u8
     ensures { Called state.old reply.old pool.old ExportedCall.FrameStart result state.new reply.new pool.new }
 {
-    exported::call(state, reply, pool, ExportedCall::FrameStart)
+    refusals::number(exported::call(state, reply, pool, ExportedCall::FrameStart))
 }
 
 #[unsafe(no_mangle)]
@@ -91,12 +91,12 @@ pub extern "C" fn widosha_outbound_seen(
 ) -> u8
     ensures { Called state.old reply.old pool.old (ExportedCall.OutboundSeen start time cca) result state.new reply.new pool.new }
 {
-    exported::call(
+    refusals::number(exported::call(
         state,
         reply,
         pool,
         ExportedCall::OutboundSeen(start, time, cca),
-    )
+    ))
 }
 
 #[unsafe(no_mangle)]
@@ -111,12 +111,12 @@ pub extern "C" fn widosha_stopped(
 ) -> u8
     ensures { Called state.old reply.old pool.old (ExportedCall.Stopped outcome length time quality) result state.new reply.new pool.new }
 {
-    exported::call(
+    refusals::number(exported::call(
         state,
         reply,
         pool,
         ExportedCall::Stopped(outcome, length, time, quality),
-    )
+    ))
 }
 
 #[unsafe(no_mangle)]
@@ -129,7 +129,7 @@ pub extern "C" fn widosha_header(
 ) -> u8
     ensures { Called state.old reply.old pool.old (ExportedCall.Header arrived length) result state.new reply.new pool.new }
 {
-    exported::call(state, reply, pool, ExportedCall::Header(arrived, length))
+    refusals::number(exported::call(state, reply, pool, ExportedCall::Header(arrived, length)))
 }
 
 #[unsafe(no_mangle)]
@@ -145,12 +145,12 @@ pub extern "C" fn widosha_entered(
 ) -> u8
     ensures { Called state.old reply.old pool.old (ExportedCall.Entered res length time entry quality) result state.new reply.new pool.new }
 {
-    exported::call(
+    refusals::number(exported::call(
         state,
         reply,
         pool,
         ExportedCall::Entered(res, length, time, entry, quality),
-    )
+    ))
 }
 
 #[unsafe(no_mangle)]
@@ -167,17 +167,17 @@ pub extern "C" fn widosha_fallback(
 ) -> u8
     ensures { Called state.old reply.old pool.old (ExportedCall.Fallback res length time cause cause_time quality) result state.new reply.new pool.new }
 {
-    exported::call(
+    refusals::number(exported::call(
         state,
         reply,
         pool,
         ExportedCall::Fallback(res, length, time, cause, cause_time, quality),
-    )
+    ))
 }
 
 #[unsafe(no_mangle)]
 pub extern "C" fn widosha_rollback(state: &mut [u8], reply: &mut [u8], pool: &mut [u8]) -> u8
     ensures { Called state.old reply.old pool.old ExportedCall.Rollback result state.new reply.new pool.new }
 {
-    exported::call(state, reply, pool, ExportedCall::Rollback)
+    refusals::number(exported::call(state, reply, pool, ExportedCall::Rollback))
 }

@@ -1,231 +1,170 @@
-// A reply as a line of 122 bytes. docs/REPLAY-FORMAT.md has the columns.
-use crate::columns;
+// A reply, and bytes of the pool, as lines of 122 bytes. docs/REPLAY-FORMAT.md has the columns.
 use phy::Ifs;
-use std::io;
+use refusals::Refusal;
+use std::fmt;
+use std::io::{self, Write};
 use tasks::{
-    Action, Answer, Answers, Cause, NextTaskIfs, Reply, Response, RxResult, StopListening,
-    TaskDirection, Timestamp,
+    Action, Answer, Answers, Cause, Reply, Response, RxResult, StopListening, TaskDirection,
+    Timestamp,
 };
 
-// The columns of an action; 0 or '-' where the action has no such thing.
+// A value as its columns of a line.
 #[derive(Clone, Copy)]
-struct ActionColumns {
-    code: u8,
-    buffer: u8,
-    length: u16,
-    cca: bool,
-    start: u8,
-    time: u64,
-    spacing: u8,
-    rollback: bool,
-}
+struct Columns<T>(T);
 
-// The columns of what an answer says; 0 or '-' where it has no such thing.
-#[derive(Clone, Copy)]
-struct ResponseColumns {
-    code: u8,
-    length: u16,
-    start: u8,
-    time: u64,
-    quality: u8,
-}
-
-fn start_code(t: Timestamp) -> u8 {
-    match t {
-        Timestamp::BestEffort => b'b',
-        Timestamp::Scheduled(_) => b't',
-    }
-}
-
-fn start_time(t: Timestamp) -> u64 {
-    match t {
-        Timestamp::BestEffort => 0,
-        Timestamp::Scheduled(time) => time,
-    }
-}
-
-fn spacing_code(s: NextTaskIfs) -> u8 {
-    match s {
-        NextTaskIfs::None => b'n',
-        NextTaskIfs::Is(i) => match i {
-            Ifs::Aifs => b'a',
-            Ifs::Sifs => b's',
-            Ifs::Lifs => b'l',
-        },
-    }
-}
-
-// An action that has no more than a code, a time and a flag.
-fn plain(code: u8, time: u64, cca: bool) -> ActionColumns {
-    ActionColumns {
-        code: code,
-        buffer: 0,
-        length: 0,
-        cca: cca,
-        start: b'-',
-        time: time,
-        spacing: b'-',
-        rollback: false,
-    }
-}
-
-fn off(rollback: bool) -> ActionColumns {
-    ActionColumns {
-        code: b'O',
-        buffer: 0,
-        length: 0,
-        cca: false,
-        start: b'-',
-        time: 0,
-        spacing: b'-',
-        rollback: rollback,
-    }
-}
-
-fn ask(d: TaskDirection) -> ActionColumns {
-    match d {
-        TaskDirection::Any => plain(b'q', 0, false),
-        TaskDirection::Outbound => plain(b'o', 0, false),
-    }
-}
-
-fn stop(how: StopListening) -> ActionColumns {
-    match how {
-        StopListening::Now => plain(b's', 0, false),
-        StopListening::At(t) => plain(b't', t, false),
-        StopListening::Before(t, c) => plain(b'b', t, c),
-    }
-}
-
-fn action_columns(a: Action) -> ActionColumns {
-    match a {
-        Action::Nothing => plain(b'-', 0, false),
-        Action::ReceiveRequest => plain(b'i', 0, false),
-        Action::TryReceiveRequest(d) => ask(d),
-        Action::Listen => plain(b'l', 0, false),
-        Action::Stop(how) => stop(how),
-        Action::ReadHeader => plain(b'h', 0, false),
-        Action::Tx(b, n, c, t, s, r) => ActionColumns {
-            code: b'T',
-            buffer: b,
-            length: n,
-            cca: c,
-            start: start_code(t),
-            time: start_time(t),
-            spacing: spacing_code(s),
-            rollback: r,
-        },
-        Action::Rx(b, t, s, r) => ActionColumns {
-            code: b'R',
-            buffer: b,
-            length: 0,
-            cca: false,
-            start: start_code(t),
-            time: start_time(t),
-            spacing: spacing_code(s),
-            rollback: r,
-        },
-        Action::Off(r) => off(r),
-    }
-}
-
-fn put_action(line: &mut [u8], a: ActionColumns) {
-    util::put(line, 5, a.code);
-    columns::put_byte(line, 7, a.buffer);
-    columns::put_half(line, 10, a.length);
-    columns::put_flag(line, 15, a.cca);
-    util::put(line, 17, a.start);
-    columns::put_double(line, 19, a.time);
-    util::put(line, 36, a.spacing);
-    columns::put_flag(line, 38, a.rollback);
-}
-
-fn said(code: u8, length: u16, start: u8, time: u64, quality: u8) -> ResponseColumns {
-    ResponseColumns {
-        code: code,
-        length: length,
-        start: start,
-        time: time,
-        quality: quality,
-    }
-}
-
-fn received(x: RxResult) -> ResponseColumns {
-    match x {
-        RxResult::Frame(n, t, q) => said(b'f', n, b'-', t, q),
-        RxResult::RxWindowEnded => said(b'w', 0, b'-', 0, 0),
-        RxResult::CrcError(t, q) => said(b'c', 0, b'-', t, q),
-    }
-}
-
-fn failed(c: Cause) -> ResponseColumns {
-    match c {
-        Cause::Scheduling(t) => said(b'e', 0, start_code(t), start_time(t), 0),
-        Cause::Task => said(b't', 0, b'-', 0, 0),
-    }
-}
-
-fn response_columns(r: Response) -> ResponseColumns {
-    match r {
-        Response::Sent(t) => said(b's', 0, b'-', t, 0),
-        Response::Nack(t) => said(b'n', 0, b'-', t, 0),
-        Response::Error(c) => failed(c),
-        Response::Received(x) => received(x),
-    }
-}
-
-// Whose answer it is, and the buffer that it returns.
-fn put_owner(line: &mut [u8], at: usize, token: u32, buffer: u8) {
-    columns::put_word(line, std::num::wrapping_add_usize(at, 2), token);
-    columns::put_byte(line, std::num::wrapping_add_usize(at, 11), buffer);
-}
-
-// An answer, from column 40 on, or from 81 on for the second one.
-fn put_response(line: &mut [u8], second: bool, token: u32, buffer: u8, r: ResponseColumns) {
-    let at: usize = if second { 81 } else { 40 };
-    util::put(line, at, r.code);
-    put_owner(line, at, token, buffer);
-    columns::put_half(line, std::num::wrapping_add_usize(at, 14), r.length);
-    util::put(line, std::num::wrapping_add_usize(at, 19), r.start);
-    columns::put_double(line, std::num::wrapping_add_usize(at, 21), r.time);
-    columns::put_byte(line, std::num::wrapping_add_usize(at, 38), r.quality);
-}
-
-fn put_nothing(line: &mut [u8], second: bool) {
-    put_response(line, second, 0, 0, said(b'-', 0, b'-', 0, 0));
-}
-
-fn put_answer(line: &mut [u8], second: bool, a: Answer) {
-    let response = a.response;
-    put_response(line, second, a.token, a.buffer, response_columns(response));
-}
-
-fn put_answers(line: &mut [u8], answers: Answers) {
-    match answers {
-        Answers::None => {
-            put_nothing(line, false);
-            put_nothing(line, true);
-        }
-        Answers::One(a) => {
-            put_answer(line, false, a);
-            put_nothing(line, true);
-        }
-        Answers::Two(a, b) => {
-            put_answer(line, false, a);
-            put_answer(line, true, b);
+impl fmt::Display for Columns<Timestamp> {
+    fn fmt<W: fmt::Write>(&self, f: &mut fmt::Formatter<W>) -> fmt::Result {
+        match self.0 {
+            Timestamp::BestEffort => write!(f, "b 0000000000000000"),
+            Timestamp::Scheduled(time) => write!(f, "t {time:016x}"),
         }
     }
 }
 
-// Prints the kind of a record, the refusal and the reply.
-pub fn print(rt: &impl Print, kind: u8, refusal: u8, reply: Reply) -> io::Result<()> {
+impl fmt::Display for Columns<Option<Ifs>> {
+    fn fmt<W: fmt::Write>(&self, f: &mut fmt::Formatter<W>) -> fmt::Result {
+        match self.0 {
+            None => write!(f, "n"),
+            Some(Ifs::Aifs) => write!(f, "a"),
+            Some(Ifs::Sifs) => write!(f, "s"),
+            Some(Ifs::Lifs) => write!(f, "l"),
+        }
+    }
+}
+
+impl fmt::Display for Columns<StopListening> {
+    fn fmt<W: fmt::Write>(&self, f: &mut fmt::Formatter<W>) -> fmt::Result {
+        match self.0 {
+            StopListening::Now => write!(f, "s 00 0000 0 - 0000000000000000 - 0"),
+            StopListening::At(time) => write!(f, "t 00 0000 0 - {time:016x} - 0"),
+            StopListening::Before(time, seen) => {
+                write!(f, "b 00 0000 {} - {time:016x} - 0", u8::from(seen))
+            }
+        }
+    }
+}
+
+impl fmt::Display for Columns<Action> {
+    fn fmt<W: fmt::Write>(&self, f: &mut fmt::Formatter<W>) -> fmt::Result {
+        let code = match self.0 {
+            Action::Nothing => '-',
+            Action::ReceiveRequest => 'i',
+            Action::TryReceiveRequest(TaskDirection::Any) => 'q',
+            Action::TryReceiveRequest(TaskDirection::Outbound) => 'o',
+            Action::Listen => 'l',
+            Action::ReadHeader => 'h',
+            Action::Stop(how) => return write!(f, "{}", Columns(how)),
+            Action::Tx(buffer, length, cca, start, spacing, rollback) => {
+                let (cca, rollback) = (u8::from(cca), u8::from(rollback));
+                let (start, spacing) = (Columns(start), Columns(spacing));
+                return write!(
+                    f,
+                    "T {buffer:02x} {length:04x} {cca} {start} {spacing} {rollback}"
+                );
+            }
+            Action::Rx(buffer, start, spacing, rollback) => {
+                let rollback = u8::from(rollback);
+                let (start, spacing) = (Columns(start), Columns(spacing));
+                return write!(f, "R {buffer:02x} 0000 0 {start} {spacing} {rollback}");
+            }
+            Action::Off(rollback) => {
+                let rollback = u8::from(rollback);
+                return write!(f, "O 00 0000 0 - 0000000000000000 - {rollback}");
+            }
+        };
+        write!(f, "{code} 00 0000 0 - 0000000000000000 - 0")
+    }
+}
+
+impl fmt::Display for Columns<Answer> {
+    fn fmt<W: fmt::Write>(&self, f: &mut fmt::Formatter<W>) -> fmt::Result {
+        let Answer {
+            token,
+            buffer,
+            response,
+        } = self.0;
+        let (code, time) = match response {
+            Response::Sent(time) => ('s', time),
+            Response::Nack(time) => ('n', time),
+            Response::Error(Cause::Task) => ('t', 0),
+            Response::Error(Cause::Scheduling(start)) => {
+                let start = Columns(start);
+                return write!(f, "e {token:08x} {buffer:02x} 0000 {start} 00");
+            }
+            Response::Received(RxResult::RxWindowEnded) => ('w', 0),
+            Response::Received(RxResult::Frame(length, time, quality)) => {
+                return write!(
+                    f,
+                    "f {token:08x} {buffer:02x} {length:04x} - {time:016x} {quality:02x}"
+                );
+            }
+            Response::Received(RxResult::CrcError(time, quality)) => {
+                return write!(
+                    f,
+                    "c {token:08x} {buffer:02x} 0000 - {time:016x} {quality:02x}"
+                );
+            }
+        };
+        write!(f, "{code} {token:08x} {buffer:02x} 0000 - {time:016x} 00")
+    }
+}
+
+impl fmt::Display for Columns<Option<Answer>> {
+    fn fmt<W: fmt::Write>(&self, f: &mut fmt::Formatter<W>) -> fmt::Result {
+        match self.0 {
+            Some(answer) => write!(f, "{}", Columns(answer)),
+            None => write!(f, "- 00000000 00 0000 - 0000000000000000 00"),
+        }
+    }
+}
+
+// The bytes of a dump. Eight at a time are faster than one.
+impl fmt::Display for Columns<&[u8]> {
+    fn fmt<W: fmt::Write>(&self, f: &mut fmt::Formatter<W>) -> fmt::Result {
+        let (words, bytes) = self.0.as_chunks::<8>();
+        for word in words {
+            write!(f, "{:016x}", u64::from_be_bytes(*word))?;
+        }
+        for byte in bytes {
+            write!(f, "{byte:02x}")?;
+        }
+        Ok(())
+    }
+}
+
+// Prints a line, with blanks up to its end.
+fn print_line(rt: &impl Print, text: impl fmt::Display + Drop) -> io::Result<()> {
     let mut line = [b' '; 122];
-    let action = reply.action;
-    let answers = reply.answers;
-    util::put(&mut line, 0, kind);
-    columns::put_byte(&mut line, 2, refusal);
-    put_action(&mut line, action_columns(action));
-    put_answers(&mut line, answers);
-    util::put(&mut line, 121, b'\n');
+    line[121] = b'\n';
+    let mut columns = &mut line[..121];
+    write!(columns, "{text}")?;
     rt.write_all(&line)
+}
+
+// What a refusal has in place of a reply.
+const NO_REPLY: Reply = Reply {
+    action: Action::Nothing,
+    answers: Answers::None,
+};
+
+// Prints the kind of a record, and what a start or a call came to.
+pub fn print(rt: &impl Print, kind: char, outcome: Result<Reply, Refusal>) -> io::Result<()> {
+    let refusal = refusals::number(outcome.map(|_| ()));
+    let reply = outcome.unwrap_or(NO_REPLY);
+    let action = Columns(reply.action);
+    let (first, second) = match reply.answers {
+        Answers::None => (None, None),
+        Answers::One(a) => (Some(a), None),
+        Answers::Two(a, b) => (Some(a), Some(b)),
+    };
+    let (first, second) = (Columns(first), Columns(second));
+    print_line(
+        rt,
+        format_args!("{kind} {refusal:02x} {action} {first} {second}"),
+    )
+}
+
+// Prints the kind of a record, a place in the pool, and bytes from there on.
+pub fn dump(rt: &impl Print, kind: char, place: u32, bytes: &[u8]) -> io::Result<()> {
+    print_line(rt, format_args!("{kind} {place:08x} {}", Columns(bytes)))
 }

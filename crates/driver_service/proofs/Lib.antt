@@ -1,3 +1,1 @@
-pub mod Gives
 pub mod Promises
-pub mod Runs

@@ -1,22 +1,15 @@
 -- The waiting line as a lent run of request records: document 02, E1, "a lent run of four request records".
 -- Assumes nothing.
-use Rattle.std.specs.Prelude.{ℕ, ◌≡◌, cond, List, [], ◌∷◌, eqb, length}
+use Rattle.std.specs.Prelude.{ℕ, cond, List, eqb, length}
 use Rattle.radio_frame.specs.declared.Settings.{Settings}
 use Rattle.tasks.specs.declared.Asked.{Asked}
 use Rattle.tasks.specs.declared.State.{State}
 use Rattle.tasks.specs.declared.Wait.{Wait}
-use Rattle.engine.specs.declared.Outcome.{Outcome}
-use Rattle.waiting_line.specs.declared.Records.{Records}
+use Rattle.engine.specs.Step.{Outcome}
 use Rattle.waiting_line.specs.declared.RequestRecord.{RequestRecord}
-use Rattle.waiting_line.specs.Line.{requests_of, waiting, records}
+use Rattle.waiting_line.specs.Line.{waiting, records}
 use Rattle.service.specs.declared.ServiceCall.{ServiceCall}
-use Rattle.service.specs.declared.ServiceOutcome.{ServiceOutcome}
 use Rattle.service.specs.Service.{Served, outcome_in, refused_by, service_of, service_start}
-use Rattle.driver_service.specs.declared.LentOutcome.{LentOutcome}
-
--- the four records by value, as a run
-abbrev pub listed : Records → List RequestRecord
-listed x = x.first ∷ x.second ∷ x.third ∷ x.fourth ∷ []
 
 -- the run after a call: a refusal keeps it; else the line's requests stand in front, and the places after them are free
 abbrev pub run_after : List RequestRecord → Served → List RequestRecord
@@ -52,8 +45,3 @@ lent_start_line set xs pool = run_after xs (lent_begun set xs pool)
 
 unfoldable pub lent_start_pool : Settings → List RequestRecord → List ℕ → List ℕ
 lent_start_pool set xs pool = (lent_begun set xs pool).pool
-
--- ---- What inner contracts and proofs cite: an outcome by value, and the run after it
-pub record Lent (o : ServiceOutcome) (xs : List RequestRecord) (r : LentOutcome) : Type 0 where
-  pub outcome : r.outcome ≡ record { refusal = o.refusal; state = o.state; reply = o.reply }
-  pub run : r.first ∷ r.second ∷ r.third ∷ r.fourth ∷ [] ≡ cond (eqb o.refusal 0) (records 4 (requests_of o.line)) xs

@@ -1,5 +1,6 @@
 -- An ACK turn is begun exactly where an ACK is due (specs/AckTurns.antt).
 -- Assumes nothing.
+use Rattle.std.proofs.Common.{Option, Some, None, ℕ}
 use Prim.Native.Nat.{ℕ}
 use mathlib.Core.Path.{◌≡◌, refl, sym, ◌∙◌, ap}
 use mathlib.Core.Logic.{inl, inr}
@@ -9,15 +10,10 @@ use lib.Dec.{eqb, leb}
 use native.Mathlib.Omega.{arith}
 use borrow.Author.Tests.{eqb-true, eqb-false, eq-eqb, ne_eqb}
 use Rattle.radio_frame.specs.declared.Settings.{Settings}
-use Rattle.radio_frame.specs.declared.AckSeqNum.{AckSeqNum}
-use Rattle.phy.specs.declared.LatestAckStart.{LatestAckStart}
 use Rattle.phy.specs.Phy.{ifs_of, latest_ack_start_of}
 use Rattle.frame_control.specs.declared.FrameControl.{FrameControl}
-use Rattle.header.specs.declared.AddressingFact.{AddressingFact}
 use Rattle.header.specs.declared.AddressingFields.{AddressingFields}
-use Rattle.header.specs.declared.FrameControlFact.{FrameControlFact}
 use Rattle.header.specs.declared.PreliminaryFrameInfo.{PreliminaryFrameInfo}
-use Rattle.header.specs.declared.SeqNrFact.{SeqNrFact}
 use Rattle.filter.specs.Filter.{control_passes, addressing_for_us, for_us}
 use Rattle.tasks.specs.declared.Action.{Action}
 use Rattle.tasks.specs.declared.Answers.{Answers}
@@ -37,7 +33,7 @@ use Rattle.tasks.specs.declared.Task.{Task}
 use Rattle.tasks.specs.declared.TaskResult.{TaskResult}
 use Rattle.tasks.specs.declared.Transition.{Transition}
 use Rattle.tasks.specs.declared.Wait.{Wait}
-use Rattle.moves.specs.declared.Move.{Move}
+use Rattle.moves.specs.Move.{Move}
 use Rattle.moves.specs.Move.{unfit, refused_of, accepted_of, guarded_of}
 use Rattle.requests.specs.Requests.{token_held, buffer_held, request_refusal}
 use Rattle.requests.proofs.Laws.{buffer_held_exactly}
@@ -113,7 +109,7 @@ sends b (Action.Off rollback) = false
 
 -- no ACK turn, where b is the ACK buffer
 pub record QuietIn (b : ℕ) (m : Move) : Type 0 where
-  pub number : m.number ≡ AckSeqNum.None
+  pub number : m.number ≡ None
   pub wait : m.refusal ≡ 0 → turning m.state.wait ≡ false
   pub action : sends b m.reply.action ≡ false
 
@@ -173,15 +169,15 @@ module _ (s : State) (pool : List ℕ) where
 
   arrival_quiet : (x : Answers) (n : Next) → Quiet (arrival_of s.set x n)
   unfolding arrival_of sending_move
-  arrival_quiet x (Next.Tx q (AckSeqNum.Is k)) = quiet _ _ _ _ refl refl
-  arrival_quiet x (Next.Tx q AckSeqNum.None) = quiet _ _ _ _ refl refl
+  arrival_quiet x (Next.Tx q (Some k)) = quiet _ _ _ _ refl refl
+  arrival_quiet x (Next.Tx q None) = quiet _ _ _ _ refl refl
   arrival_quiet x (Next.Rx q) = quiet _ _ _ _ refl refl
   arrival_quiet x Next.Off = quiet _ _ _ _ refl refl
 
-  started_quiet : (a : AwaitedAck) (l : LatestAckStart) → Quiet (ack_wait_started s a l)
+  started_quiet : (a : AwaitedAck) (l : Option ℕ) → Quiet (ack_wait_started s a l)
   unfolding ack_wait_started
-  started_quiet a (LatestAckStart.At t) = quiet _ _ _ _ refl refl
-  started_quiet a LatestAckStart.Exceeds = refused_quiet 11 (λ z. omega arith)
+  started_quiet a (Some t) = quiet _ _ _ _ refl refl
+  started_quiet a None = refused_quiet 11 (λ z. omega arith)
 
   entered_quiet : (e : Transition) (r : TaskResult) (entry : ℕ) → Quiet (entered_of s pool r entry e)
   unfolding entered_of request_entered rearm_entered ack_turn_entered ack_wait_entered
@@ -238,14 +234,14 @@ module _ (s : State) (pool : List ℕ) where
     abbrev ours : Bool
     ours = for_us s.set.hardware_addr s.set.pan_id s.set.implicit_broadcast info
 
-    missing_foreign : info.addressing_fields ≡ AddressingFact.Missing → ours ≡ false
+    missing_foreign : info.addressing_fields ≡ None → ours ≡ false
     unfolding for_us addressing_for_us
     missing_foreign e = rw e (and-false (control_passes info.frame_control))
 
     module _ (is_for_us : ours ≡ true) where
-      no_bit : (fc : FrameControl) (k : ℕ) (f : AddressingFields) → info.frame_control ≡ FrameControlFact.Is fc
-          → info.seq_nr ≡ SeqNrFact.Is k → info.addressing_fields ≡ AddressingFact.Are f → broadcast_destination f.dst_address ≡ false
-          → (t : Bool) → fc.ack_request ≡ t → cond fc.ack_request (AckSeqNum.Is k) AckSeqNum.None ≡ AckSeqNum.None
+      no_bit : (fc : FrameControl) (k : ℕ) (f : AddressingFields) → info.frame_control ≡ Some fc
+          → info.seq_nr ≡ Some k → info.addressing_fields ≡ Some f → broadcast_destination f.dst_address ≡ false
+          → (t : Bool) → fc.ack_request ≡ t → cond fc.ack_request (Some k) None ≡ None
       no_bit fc k f control number addressing other false e = rw e refl
       no_bit fc k f control number addressing other true e =
           absurd (none_due k
@@ -263,22 +259,22 @@ module _ (s : State) (pool : List ℕ) where
             not_absent = λ d. differ (sym (destination_broadcast f.dst_address (inr d)) ∙ other);
           }))
 
-      not_wanted : (f : AddressingFields) → info.addressing_fields ≡ AddressingFact.Are f → broadcast_destination f.dst_address ≡ false
-          → (control : FrameControlFact) (number : SeqNrFact) → info.frame_control ≡ control → info.seq_nr ≡ number
-          → requested control number ≡ AckSeqNum.None
+      not_wanted : (f : AddressingFields) → info.addressing_fields ≡ Some f → broadcast_destination f.dst_address ≡ false
+          → (control : Option FrameControl) (number : Option ℕ) → info.frame_control ≡ control → info.seq_nr ≡ number
+          → requested control number ≡ None
       unfolding requested
-      not_wanted f addressing other (FrameControlFact.Is fc) (SeqNrFact.Is k) e₀ e₁ = no_bit fc k f e₀ e₁ addressing other fc.ack_request refl
-      not_wanted f addressing other (FrameControlFact.Is fc) SeqNrFact.Missing e₀ e₁ = refl
-      not_wanted f addressing other FrameControlFact.Missing number e₀ e₁ = refl
+      not_wanted f addressing other (Some fc) (Some k) e₀ e₁ = no_bit fc k f e₀ e₁ addressing other fc.ack_request refl
+      not_wanted f addressing other (Some fc) None e₀ e₁ = refl
+      not_wanted f addressing other None number e₀ e₁ = refl
 
-      no_number : (addressing : AddressingFact) → info.addressing_fields ≡ addressing
-          → number_to_acknowledge addressing (requested info.frame_control info.seq_nr) ≡ AckSeqNum.None
+      no_number : (addressing : Option AddressingFields) → info.addressing_fields ≡ addressing
+          → number_to_acknowledge addressing (requested info.frame_control info.seq_nr) ≡ None
       unfolding number_to_acknowledge broadcast
-      no_number AddressingFact.Missing e = absurd (differ (sym is_for_us ∙ missing_foreign e))
-      no_number (AddressingFact.Are f) e = go (broadcast_destination f.dst_address) refl
+      no_number None e = absurd (differ (sym is_for_us ∙ missing_foreign e))
+      no_number (Some f) e = go (broadcast_destination f.dst_address) refl
         where
           go : (t : Bool) → broadcast_destination f.dst_address ≡ t
-              → cond (broadcast_destination f.dst_address) AckSeqNum.None (requested info.frame_control info.seq_nr) ≡ AckSeqNum.None
+              → cond (broadcast_destination f.dst_address) None (requested info.frame_control info.seq_nr) ≡ None
           go true d = rw d refl
           go false d = rw d (not_wanted f e d info.frame_control info.seq_nr refl refl)
 

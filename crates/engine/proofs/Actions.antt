@@ -9,7 +9,7 @@ use borrow.Author.Tests.{eqb-false}
 use Rattle.tasks.specs.declared.Action.{Action}
 use Rattle.tasks.specs.declared.Call.{Call}
 use Rattle.tasks.specs.declared.State.{State}
-use Rattle.moves.specs.declared.Move.{Move}
+use Rattle.moves.specs.Move.{Move}
 use Rattle.engine.specs.Step.{move_of, outcome_of, step_of}
 use Rattle.engine.specs.Actions.{ActsRight, AcceptedActs}
 use Rattle.engine.proofs.Table.{is_nothing, Legal, refuse, stay, swap, enters, step_legal}

@@ -19,7 +19,7 @@ use Rattle.tasks.specs.declared.State.{State}
 use Rattle.tasks.specs.declared.Wait.{Wait}
 use Rattle.tasks.specs.Answers.{answers_of}
 use Rattle.requests.specs.Requests.{token_held, buffer_held}
-use Rattle.moves.specs.declared.Move.{Move}
+use Rattle.moves.specs.Move.{Move}
 use Rattle.moves.specs.Move.{guarded_of}
 use Rattle.engine.specs.Step.{move_of, step_of, start_of}
 use Rattle.engine.specs.Refusals.{fits, later_refusal, refusal_of, InOrder}

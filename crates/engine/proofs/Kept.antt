@@ -1,5 +1,6 @@
 -- What an accepted call does to the book, and what the invariant says of it.
 -- Assumes nothing.
+use Rattle.std.proofs.Common.{Option, Some, None, ℕ}
 use Prim.Native.Nat.{ℕ, suc, ◌+◌, ◌<◌, ◌≤◌}
 use mathlib.Core.Path.{◌≡◌, refl, sym, ◌∙◌, ap}
 use mathlib.Core.Bool.{Bool, true, false, ◌||◌, or_assoc, or-false}
@@ -9,7 +10,6 @@ use lib.ListN.{length}
 use native.Mathlib.Omega.{arith}
 use borrow.Author.Tests.{eq-eqb}
 use Rattle.radio_frame.specs.declared.Settings.{Settings}
-use Rattle.radio_frame.specs.declared.AckSeqNum.{AckSeqNum}
 use Rattle.radio_frame.specs.RadioFrame.{frame_start}
 use Rattle.tasks.specs.declared.Action.{Action}
 use Rattle.tasks.specs.declared.Answers.{Answers}
@@ -18,7 +18,6 @@ use Rattle.tasks.specs.declared.Call.{Call}
 use Rattle.tasks.specs.declared.Left.{Left}
 use Rattle.tasks.specs.declared.Next.{Next}
 use Rattle.tasks.specs.declared.Request.{Request}
-use Rattle.tasks.specs.declared.Slot.{Slot}
 use Rattle.tasks.specs.declared.State.{State}
 use Rattle.tasks.specs.declared.Stop.{Stop}
 use Rattle.tasks.specs.declared.Task.{Task}
@@ -26,7 +25,7 @@ use Rattle.tasks.specs.declared.Transition.{Transition}
 use Rattle.tasks.specs.declared.Wait.{Wait}
 use Rattle.tasks.specs.Pending.{left_slot, next_slot, asked_slot, stop_slot, transition_slots, pending_of}
 use Rattle.requests.specs.Requests.{slot_has_token, slot_has_buffer, token_held, buffer_held}
-use Rattle.moves.specs.declared.Move.{Move}
+use Rattle.moves.specs.Move.{Move}
 use Rattle.asking.specs.Asking.{next_of}
 use Rattle.entered.specs.Entered.{with_spare}
 use Rattle.engine.specs.Book.{requested, is_number, Entry, Radio, Book, entry_of, older, enter, has_token, has_number, take_answers, tell, radio_after, book_step}
@@ -170,9 +169,9 @@ module _ (s : State) (b e : Book) (pool : List ℕ) (c : Call) (action : Action)
       }
 
 -- ---- What refusals 6 and 7 look at is what is owed
-slot_has : (ℕ → ℕ → ℕ) → Slot → ℕ → Bool
-slot_has pick Slot.Empty x = false
-slot_has pick (Slot.Held t b) x = eqb (pick t b) x
+slot_has : (ℕ → ℕ → ℕ) → Option (ℕ × ℕ) → ℕ → Bool
+slot_has pick None x = false
+slot_has pick (Some (t, b)) x = eqb (pick t b) x
 
 module _ (set : Settings) (pick : ℕ → ℕ → ℕ) (x : ℕ) where
   next_has : (n : Next) → slot_has pick (next_slot n) x ≡ has_number x (numbers pick (next_standing n))
@@ -226,15 +225,15 @@ module _ (set : Settings) (pick : ℕ → ℕ → ℕ) (x : ℕ) where
   pending_has (Wait.Stopping p) = stop_has p
   pending_has (Wait.Reading q) = refl
 
-slot_token : (h : Slot) (x : ℕ) → slot_has_token h x ≡ slot_has token h x
+slot_token : (h : Option (ℕ × ℕ)) (x : ℕ) → slot_has_token h x ≡ slot_has token h x
 unfolding slot_has_token slot_has
-slot_token Slot.Empty x = refl
-slot_token (Slot.Held t b) x = refl
+slot_token None x = refl
+slot_token (Some (t, b)) x = refl
 
-slot_buffer : (h : Slot) (x : ℕ) → slot_has_buffer h x ≡ slot_has buffer h x
+slot_buffer : (h : Option (ℕ × ℕ)) (x : ℕ) → slot_has_buffer h x ≡ slot_has buffer h x
 unfolding slot_has_buffer slot_has
-slot_buffer Slot.Empty x = refl
-slot_buffer (Slot.Held t b) x = refl
+slot_buffer None x = refl
+slot_buffer (Some (t, b)) x = refl
 
 pub token_has : (set : Settings) (w : Wait) (t : ℕ) → token_held w t ≡ has_number t (numbers token (wait_standing set w))
 unfolding token_held
@@ -391,8 +390,8 @@ in_time (o ∷ os) (e ∷ es) F L = (one_in_time, in_time os es F.1 L.1)
         let m : o.limit < calls_allowed o.wants = L.0 u in rw F.0.wants (omega arith)
 
 next_limits : (n : Next) → Limits (next_standing n)
-next_limits (Next.Tx q (AckSeqNum.Is k)) = (λ t. omega arith, tt)
-next_limits (Next.Tx q AckSeqNum.None) = (λ t. omega arith, tt)
+next_limits (Next.Tx q (Some k)) = (λ t. omega arith, tt)
+next_limits (Next.Tx q None) = (λ t. omega arith, tt)
 next_limits (Next.Rx q) = (λ t. omega arith, tt)
 next_limits Next.Off = tt
 

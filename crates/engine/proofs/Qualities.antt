@@ -1,15 +1,14 @@
 -- The link quality decides nothing (specs/Qualities.antt): told other qualities, every wait makes the same move with other qualities.
 -- Assumes nothing.
+use Rattle.std.proofs.Common.{Option, Some, None, ℕ}
 use Prim.Native.Nat.{ℕ}
 use mathlib.Core.Path.{◌≡◌, refl, ap, ◌∙◌}
 use mathlib.Core.Bool.{Bool, true, false, cond}
 use mathlib.Core.List.{List}
 use lib.Dec.{eqb}
 use lib.ListN.{length}
-use Rattle.radio_frame.specs.declared.AckSeqNum.{AckSeqNum}
 use Rattle.radio_frame.specs.RadioFrame.{frame_head}
 use Rattle.phy.specs.declared.Ifs.{Ifs}
-use Rattle.phy.specs.declared.LatestAckStart.{LatestAckStart}
 use Rattle.phy.specs.Phy.{ifs_of, latest_ack_start_of}
 use Rattle.ack.specs.Ack.{acknowledges}
 use Rattle.header.specs.declared.PreliminaryFrameInfo.{PreliminaryFrameInfo}
@@ -21,7 +20,6 @@ use Rattle.tasks.specs.declared.Call.{Call}
 use Rattle.tasks.specs.declared.Cause.{Cause}
 use Rattle.tasks.specs.declared.Left.{Left}
 use Rattle.tasks.specs.declared.Next.{Next}
-use Rattle.tasks.specs.declared.Owed.{Owed}
 use Rattle.tasks.specs.declared.Request.{Request}
 use Rattle.tasks.specs.declared.Response.{Response}
 use Rattle.tasks.specs.declared.RxResult.{RxResult}
@@ -34,9 +32,9 @@ use Rattle.tasks.specs.declared.Transition.{Transition}
 use Rattle.tasks.specs.declared.TxTask.{TxTask}
 use Rattle.tasks.specs.declared.Wait.{Wait}
 use Rattle.tasks.specs.Answers.{to_tx, answers_of}
-use Rattle.moves.specs.declared.Move.{Move}
+use Rattle.moves.specs.Move.{Move}
 use Rattle.moves.specs.Move.{refused_of, guarded_of}
-use Rattle.results.specs.declared.Leave.{Leave}
+use Rattle.results.specs.Results.{Leave}
 use Rattle.results.specs.Results.{received_unfit, received_refusal, leave_off, leave_receiving, leave_sending, leave_sending_ack, ack_response, ack_received, leave_receiving_ack, leave_of}
 use Rattle.asking.specs.Asking.{previous_task_of, taken_of, request_of, none_of, asking_of}
 use Rattle.entered.specs.Entered.{sending_move, arrival_of, request_entered, rearm_entered, ack_turn_entered, ack_wait_started, ack_wait_entered, entered_of}
@@ -46,6 +44,7 @@ use Rattle.stopping.specs.Stopping.{frame_stopped, outbound_stopped, ack_failed,
 use Rattle.reading.specs.Reading.{requested, number_to_acknowledge, rearm_move, receive_move, header_move_of, header_of, reading_of}
 use Rattle.engine.specs.Step.{wait_move, move_of, outcome_of, written_by, step_of, step_pool}
 use Rattle.engine.specs.Qualities.{rx_with, task_with, stop_with, call_with, answer_with, answers_with_of, QualityDecidesNothing}
+use Rattle.tasks.specs.declared.Answer.{Answer}
 
 module _ (f : ℕ → ℕ) where
   abbrev move_with : Move → Move
@@ -57,9 +56,9 @@ module _ (f : ℕ → ℕ) where
         number = m.number;
       }
 
-  abbrev owed_with : Owed → Owed
-  owed_with Owed.None = Owed.None
-  owed_with (Owed.One x) = Owed.One (answer_with f x)
+  abbrev owed_with : Option Answer → Option Answer
+  owed_with None = None
+  owed_with (Some x) = Some (answer_with f x)
 
   abbrev leave_with : Leave → Leave
   leave_with x = record { refusal = x.refusal; owed = owed_with x.owed }
@@ -111,21 +110,21 @@ module _ (f : ℕ → ℕ) where
     leave_with_lem (Left.ReceivingAck a) TaskResult.Off = refl
     leave_with_lem (Left.ReceivingAck a) (TaskResult.Sent t) = refl
     leave_with_lem (Left.ReceivingAck a) (TaskResult.Rx (RxResult.Frame n t k)) =
-        ap (λ x. record { refusal = received_refusal s.set (RxResult.Frame n t k); owed = Owed.One x }) (ack_with a n)
+        ap (λ x. record { refusal = received_refusal s.set (RxResult.Frame n t k); owed = Some x }) (ack_with a n)
     leave_with_lem (Left.ReceivingAck a) (TaskResult.Rx RxResult.RxWindowEnded) = refl
     leave_with_lem (Left.ReceivingAck a) (TaskResult.Rx (RxResult.CrcError t k)) = refl
 
-    answers_with : (o : Owed) → answers_of (owed_with o) ≡ answers_with_of f (answers_of o)
+    answers_with : (o : Option Answer) → answers_of (owed_with o) ≡ answers_with_of f (answers_of o)
     unfolding answers_of
-    answers_with Owed.None = refl
-    answers_with (Owed.One x) = refl
+    answers_with None = refl
+    answers_with (Some x) = refl
 
     -- ---- Entered, Fallback, Rollback
 
     arrival_with : (x : Answers) (n : Next) → arrival_of s.set (answers_with_of f x) n ≡ move_with (arrival_of s.set x n)
     unfolding arrival_of sending_move
-    arrival_with x (Next.Tx q (AckSeqNum.Is k)) = refl
-    arrival_with x (Next.Tx q AckSeqNum.None) = refl
+    arrival_with x (Next.Tx q (Some k)) = refl
+    arrival_with x (Next.Tx q None) = refl
     arrival_with x (Next.Rx q) = refl
     arrival_with x Next.Off = refl
 
@@ -150,16 +149,16 @@ module _ (f : ℕ → ℕ) where
     ack_wait_entered_lem q k entry TaskResult.Off = refl
     ack_wait_entered_lem q k entry (TaskResult.Sent t) = go (latest_ack_start_of entry)
       where
-        go : (x : LatestAckStart)
+        go : (x : Option ℕ)
             → ack_wait_started s (record { task = q; number = k; time = t }) x ≡ move_with (ack_wait_started s (record { task = q; number = k; time = t }) x)
-        go (LatestAckStart.At u) = refl
-        go LatestAckStart.Exceeds = refl
+        go (Some u) = refl
+        go None = refl
     ack_wait_entered_lem q k entry (TaskResult.Rx r) = refl
 
-    error_with : (q : TxTask) (cause : Cause) (o : Owed) → then_error q cause (owed_with o) ≡ answers_with_of f (then_error q cause o)
+    error_with : (q : TxTask) (cause : Cause) (o : Option Answer) → then_error q cause (owed_with o) ≡ answers_with_of f (then_error q cause o)
     unfolding then_error
-    error_with q cause Owed.None = refl
-    error_with q cause (Owed.One x) = refl
+    error_with q cause None = refl
+    error_with q cause (Some x) = refl
 
     fell_back : (l : Left) (r : TaskResult) (cause : Cause) (n : Next)
         → request_fell_back s pool l (task_with f r) cause n ≡ move_with (request_fell_back s pool l r cause n)
@@ -240,11 +239,11 @@ module _ (f : ℕ → ℕ) where
         go (for_us s.set.hardware_addr s.set.pan_id s.set.implicit_broadcast info)
         (number_to_acknowledge info.addressing_fields (requested info.frame_control info.seq_nr))
       where
-        go : (t : Bool) (k : AckSeqNum)
+        go : (t : Bool) (k : Option ℕ)
             → cond t (receive_move s.set q (ifs_of length) k) (rearm_move s.set q)
             ≡ move_with (cond t (receive_move s.set q (ifs_of length) k) (rearm_move s.set q))
-        go true (AckSeqNum.Is k) = refl
-        go true AckSeqNum.None = refl
+        go true (Some k) = refl
+        go true None = refl
         go false k = refl
 
     header_with : (q : RxTask) (arrived length : ℕ) → header_of s pool q arrived length ≡ move_with (header_of s pool q arrived length)

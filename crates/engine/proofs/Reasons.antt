@@ -8,7 +8,7 @@ use Rattle.tasks.specs.declared.Answers.{Answers}
 use Rattle.tasks.specs.declared.Call.{Call}
 use Rattle.tasks.specs.declared.State.{State}
 use Rattle.tasks.specs.declared.TaskResult.{TaskResult}
-use Rattle.moves.specs.declared.Move.{Move}
+use Rattle.moves.specs.Move.{Move}
 use Rattle.engine.specs.Step.{move_of, step_of}
 use Rattle.engine.specs.Answered.{Tells}
 use Rattle.engine.specs.Reasons.{Reason, listening_ended, received, received_acknowledged, failed, sent, acknowledged, unacknowledged, ack_window_ended, Reasons, EveryAnswerHasItsReason, left_quality, told_quality, CarriesTold, AllCarryTold, EveryQualityIsTold}

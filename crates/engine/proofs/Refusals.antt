@@ -1,5 +1,6 @@
 -- The first demand: the calls refuse by document 01's conditions, in its order, and a refused call changes nothing.
 -- Assumes nothing.
+use Rattle.std.proofs.Common.{Option, Some, None, ℕ}
 use Prim.Native.Nat.{ℕ, ◌+◌, ◌^◌}
 use mathlib.Core.Path.{◌≡◌, refl, sym, ◌∙◌}
 use mathlib.Core.Bool.{Bool, true, false, cond, not, ◌&&◌}
@@ -8,9 +9,7 @@ use lib.Dec.{eqb, ltb}
 use lib.ListN.{length}
 use borrow.Author.Tests.{eqb-true}
 use Rattle.radio_frame.specs.declared.Settings.{Settings}
-use Rattle.radio_frame.specs.declared.AckSeqNum.{AckSeqNum}
 use Rattle.radio_frame.specs.Settings.{pool_unfit, rooms_unfit, own_buffers_unfit, settings_refusal}
-use Rattle.phy.specs.declared.LatestAckStart.{LatestAckStart}
 use Rattle.phy.specs.Phy.{ifs_of, latest_ack_start_of}
 use Rattle.header.specs.declared.PreliminaryFrameInfo.{PreliminaryFrameInfo}
 use Rattle.filter.specs.Filter.{for_us}
@@ -31,7 +30,7 @@ use Rattle.tasks.specs.declared.TxTask.{TxTask}
 use Rattle.tasks.specs.declared.Wait.{Wait}
 use Rattle.requests.specs.Requests.{request_refusal}
 use Rattle.results.specs.Results.{received_unfit, received_refusal, leave_off, leave_receiving, leave_sending, leave_sending_ack, ack_received, leave_receiving_ack, leave_of}
-use Rattle.moves.specs.declared.Move.{Move}
+use Rattle.moves.specs.Move.{Move}
 use Rattle.moves.specs.Move.{refused_of, guarded_of}
 use Rattle.asking.specs.Asking.{taken_of, request_of, none_of, asking_of}
 use Rattle.entered.specs.Entered.{sending_move, arrival_of, request_entered, rearm_entered, ack_turn_entered, ack_wait_started, ack_wait_entered, entered_of}
@@ -75,8 +74,8 @@ settings_then s m false false false r e = e
 module _ (set : Settings) (pool : List ℕ) where
   arrival_accepted : (x : Answers) (n : Next) → (arrival_of set x n).refusal ≡ 0
   unfolding arrival_of sending_move
-  arrival_accepted x (Next.Tx q (AckSeqNum.Is k)) = refl
-  arrival_accepted x (Next.Tx q AckSeqNum.None) = refl
+  arrival_accepted x (Next.Tx q (Some k)) = refl
+  arrival_accepted x (Next.Tx q None) = refl
   arrival_accepted x (Next.Rx q) = refl
   arrival_accepted x Next.Off = refl
 
@@ -117,7 +116,7 @@ module _ (set : Settings) (pool : List ℕ) where
   ack_wait_refusal q k entry TaskResult.Off = refl
   ack_wait_refusal q k entry (TaskResult.Sent t) = go (ltb (entry + 10000) (2 ^ 64))
     where
-      go : (b : Bool) → (ack_wait_started (state_at set (Wait.Entering (Transition.AckWait q k))) (record { task = q; number = k; time = t }) (cond b (LatestAckStart.At (entry + 10000)) LatestAckStart.Exceeds)).refusal ≡ cond (not b) 11 0
+      go : (b : Bool) → (ack_wait_started (state_at set (Wait.Entering (Transition.AckWait q k))) (record { task = q; number = k; time = t }) (cond b (Some (entry + 10000)) None)).refusal ≡ cond (not b) 11 0
       go true = refl
       go false = refl
   ack_wait_refusal q k entry (TaskResult.Rx r) = refl
@@ -174,9 +173,9 @@ module _ (set : Settings) (pool : List ℕ) where
   unfolding header_move_of receive_move
   header_accepted q info len = ours (for_us set.hardware_addr set.pan_id set.implicit_broadcast info) (number_to_acknowledge info.addressing_fields (requested info.frame_control info.seq_nr))
     where
-      ours : (t : Bool) (k : AckSeqNum) → (cond t (receive_move set q (ifs_of len) k) (rearm_move set q)).refusal ≡ 0
-      ours true (AckSeqNum.Is k) = refl
-      ours true AckSeqNum.None = refl
+      ours : (t : Bool) (k : Option ℕ) → (cond t (receive_move set q (ifs_of len) k) (rearm_move set q)).refusal ≡ 0
+      ours true (Some k) = refl
+      ours true None = refl
       ours false k = refl
 
   -- what a wait refuses

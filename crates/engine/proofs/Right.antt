@@ -1,12 +1,12 @@
 -- Each kind of answer is right, whatever the book says of the request, as long as it agrees with the wait.
 -- Assumes nothing.
+use Rattle.std.proofs.Common.{Option, Some, None, ℕ}
 use Prim.Native.Nat.{ℕ}
 use mathlib.Core.Path.{◌≡◌, refl, sym, ◌∙◌, ap}
 use mathlib.Core.Bool.{Bool, true, false}
 use mathlib.Core.List.{List}
 use mathlib.Core.Logic.{inl, inr}
 use native.Mathlib.Omega.{arith}
-use Rattle.radio_frame.specs.declared.AckSeqNum.{AckSeqNum}
 use Rattle.radio_frame.specs.declared.Settings.{Settings}
 use Rattle.radio_frame.specs.RadioFrame.{frame_start}
 use Rattle.tasks.specs.declared.Call.{Call}
@@ -64,9 +64,9 @@ progress_buffer (window_ended t) = 0
 progress_buffer (frame_started t b) = b
 progress_buffer astray = 0
 
-abbrev the_number : AckSeqNum → ℕ
-the_number (AckSeqNum.Is k) = k
-the_number AckSeqNum.None = 0
+abbrev the_number : Option ℕ → ℕ
+the_number (Some k) = k
+the_number None = 0
 
 abbrev the_result : RxResult → TaskResult → RxResult
 the_result other TaskResult.Off = other
@@ -80,12 +80,12 @@ flag false = 0
 true_false : {b : Bool} → b ≡ true → b ≡ false → ⊥
 true_false p q = let z : ◌≡◌ {A = ℕ} 1 0 = ap flag (sym p ∙ q) in absurd (omega arith)
 
-noted : (n : AckSeqNum) → is_number n ≡ true → (k : ℕ) × (n ≡ AckSeqNum.Is k)
-noted (AckSeqNum.Is k) h = (k, refl)
-noted AckSeqNum.None h = absurd (true_false {b = false} h refl)
+noted : (n : Option ℕ) → is_number n ≡ true → (k : ℕ) × (n ≡ Some k)
+noted (Some k) h = (k, refl)
+noted None h = absurd (true_false {b = false} h refl)
 
 -- no number is noted for a request whose frame wants no ACK
-not_noted : (n : AckSeqNum) (k : ℕ) → is_number n ≡ false → n ≡ AckSeqNum.Is k → ⊥
+not_noted : (n : Option ℕ) (k : ℕ) → is_number n ≡ false → n ≡ Some k → ⊥
 not_noted n k h p = true_false (ap is_number p) h
 
 -- one call tells one result
@@ -164,8 +164,8 @@ module _ (set : Settings) (pool : List ℕ) (c : Call) (o : Standing) (e : Entry
       }
 
   -- Sent and Nack, by what was received where the ACK was awaited
-  module _ (k t b : ℕ) (r : RxResult) (tx : o.transmit ≡ true) (n : o.number ≡ AckSeqNum.Is k) (p : o.progress ≡ frame_started t b) (tells : Tells c (TaskResult.Rx r)) where
-    mine : e.number ≡ AckSeqNum.Is k
+  module _ (k t b : ℕ) (r : RxResult) (tx : o.transmit ≡ true) (n : o.number ≡ Some k) (p : o.progress ≡ frame_started t b) (tells : Tells c (TaskResult.Rx r)) where
+    mine : e.number ≡ Some k
     mine = A.number k n
 
     begun : e.progress ≡ frame_started t b
@@ -191,7 +191,7 @@ module _ (set : Settings) (pool : List ℕ) (c : Call) (o : Standing) (e : Entry
         let re : r ≡ H.result = ap (the_result r) (tells_one c _ _ tells H.received) in
         (ap progress_time q, rw (ke, be, re) H.its_ack)
 
-    number_is : (k' : ℕ) → e.number ≡ AckSeqNum.Is k' → k ≡ k'
+    number_is : (k' : ℕ) → e.number ≡ Some k' → k ≡ k'
     number_is k' h = ap the_number (sym mine ∙ h)
 
     pub acknowledged_right : is_ack set pool b k r ≡ true → AnsweredRight set (answered (Response.Sent t))

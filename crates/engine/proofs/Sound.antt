@@ -1,5 +1,6 @@
 -- The claims follow from the invariant.
 -- Assumes nothing.
+use Rattle.std.proofs.Common.{Option, Some, None, ℕ}
 use Prim.Native.Nat.{ℕ, ◌≤◌}
 use mathlib.Core.Path.{◌≡◌, refl, sym, ◌∙◌, ap}
 use mathlib.Core.Bool.{Bool, true, false, cond, ◌||◌}
@@ -15,9 +16,8 @@ use Rattle.tasks.specs.declared.Call.{Call}
 use Rattle.tasks.specs.declared.Request.{Request}
 use Rattle.tasks.specs.declared.State.{State}
 use Rattle.tasks.specs.Answers.{answers_of}
-use Rattle.tasks.specs.declared.Owed.{Owed}
 use Rattle.requests.specs.Requests.{token_held, buffer_held, tx_length_unfit}
-use Rattle.moves.specs.declared.Move.{Move}
+use Rattle.moves.specs.Move.{Move}
 use Rattle.engine.specs.Step.{move_of, step_of}
 use Rattle.engine.specs.Refusals.{not_allowed_in, later_refusal, refusal_of, InOrder}
 use Rattle.engine.specs.Book.{Entry, Book, has_token, has_number}
@@ -30,6 +30,7 @@ use Rattle.engine.proofs.Radio.{receives}
 use Rattle.engine.proofs.Kept.{Kept, token_has, held_has, fits_token, fits_tokens, count_own, in_time, limits, pays_in_order}
 use Rattle.engine.proofs.Table.{Legal, refuse, stay, swap, enters, passed, step_legal}
 use Rattle.engine.proofs.Refusals.{in_order}
+use Rattle.tasks.specs.declared.Answer.{Answer}
 
 -- ---- Refusals 6 and 7 are the book's
 six_exactly : (t u v w : Bool) (n : ℕ) → n ≡ cond t 6 (cond u 7 (cond v 8 (cond w 9 0))) → n ≡ 6 ↔ t ≡ true
@@ -121,10 +122,10 @@ unfolding step_of
 next_spaced s b K pool c ok = legal_spaced s b K pool c (move_of s pool c) ok (step_legal s pool c)
 
 -- an answer that is owed at once is one
-one_owed : (es : List Entry) (o : Owed) → EarlierFirst es (answers_of o)
+one_owed : (es : List Entry) (o : Option Answer) → EarlierFirst es (answers_of o)
 unfolding answers_of
-one_owed es Owed.None = tt
-one_owed es (Owed.One a) = tt
+one_owed es None = tt
+one_owed es (Some a) = tt
 
 pub legal_in_order : (s : State) (b : Book) → Kept s b → (pool : List ℕ) (c : Call) (m : Move) → m.refusal ≡ 0 → Legal s pool c m
     → EarlierFirst b.requests m.reply.answers

@@ -1,5 +1,6 @@
 -- The invariant of the book: it says of the unanswered requests what the wait says, and each answer so far was right.
 -- Assumes nothing.
+use Rattle.std.proofs.Common.{Some, ℕ}
 use Prim.Native.Nat.{ℕ, suc, ◌+◌, ◌≤◌}
 use mathlib.Core.Path.{◌≡◌, refl, sym, ◌∙◌, ap}
 use mathlib.Core.Bool.{Bool, true, false, cond, not, beq}
@@ -8,7 +9,6 @@ use lib.Dec.{eqb}
 use lib.ListN.{length}
 use native.Mathlib.Omega.{arith}
 use borrow.Author.Tests.{eq-eqb, lt-ltb}
-use Rattle.radio_frame.specs.declared.AckSeqNum.{AckSeqNum}
 use Rattle.radio_frame.specs.declared.Settings.{Settings}
 use Rattle.tasks.specs.declared.Action.{Action}
 use Rattle.tasks.specs.declared.Answer.{Answer}
@@ -115,7 +115,7 @@ pub record LooserOne (o o' : Standing) : Type 0 where
   pub token : o.token ≡ o'.token
   pub transmit : o.transmit ≡ o'.transmit
   pub wants : o.wants ≡ o'.wants
-  pub number : (k : ℕ) → o'.number ≡ AckSeqNum.Is k → o.number ≡ AckSeqNum.Is k
+  pub number : (k : ℕ) → o'.number ≡ Some k → o.number ≡ Some k
   pub progress : o'.transmit ≡ true → o.progress ≡ o'.progress
   pub limit : o'.transmit ≡ true → o.limit ≤ o'.limit
 

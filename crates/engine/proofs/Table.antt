@@ -1,5 +1,6 @@
 -- What a call can come to: one table of waits and calls, from which each property of all calls is proved.
 -- Assumes nothing.
+use Rattle.std.proofs.Common.{Option, Some, None, ℕ}
 use Prim.Native.Nat.{ℕ, suc, ◌+◌, ◌<◌}
 use mathlib.Core.Path.{◌≡◌, refl, ◌∙◌, ap}
 use mathlib.Core.Bool.{Bool, true, false, cond, ◌||◌}
@@ -9,11 +10,9 @@ use lib.ListN.{take, drop}
 use native.Mathlib.Omega.{arith}
 use borrow.Author.Tests.{eqb-true}
 use Rattle.radio_frame.specs.declared.Settings.{Settings}
-use Rattle.radio_frame.specs.declared.AckSeqNum.{AckSeqNum}
 use Rattle.radio_frame.specs.RadioFrame.{frame_head, frame_start}
 use Rattle.ack.specs.Ack.{acknowledges}
 use Rattle.phy.specs.declared.Ifs.{Ifs}
-use Rattle.phy.specs.declared.LatestAckStart.{LatestAckStart}
 use Rattle.phy.specs.Phy.{ifs_of, latest_ack_start_of}
 use Rattle.header.specs.declared.PreliminaryFrameInfo.{PreliminaryFrameInfo}
 use Rattle.header.specs.Header.{info_of}
@@ -27,8 +26,6 @@ use Rattle.tasks.specs.declared.Call.{Call}
 use Rattle.tasks.specs.declared.Cause.{Cause}
 use Rattle.tasks.specs.declared.Left.{Left}
 use Rattle.tasks.specs.declared.Next.{Next}
-use Rattle.tasks.specs.declared.NextTaskIfs.{NextTaskIfs}
-use Rattle.tasks.specs.declared.Owed.{Owed}
 use Rattle.tasks.specs.declared.Request.{Request}
 use Rattle.tasks.specs.declared.Response.{Response}
 use Rattle.tasks.specs.declared.RxResult.{RxResult}
@@ -44,7 +41,7 @@ use Rattle.tasks.specs.declared.Wait.{Wait}
 use Rattle.tasks.specs.Answers.{to_tx, to_rx, answers_of}
 use Rattle.requests.specs.Requests.{token_held, buffer_held, request_refusal, allowed_of}
 use Rattle.results.specs.Results.{leave_off, leave_receiving, leave_sending, leave_sending_ack, ack_response, ack_received, leave_receiving_ack, leave_of}
-use Rattle.moves.specs.declared.Move.{Move}
+use Rattle.moves.specs.Move.{Move}
 use Rattle.moves.specs.Move.{refused_of, guarded_of}
 use Rattle.asking.specs.Asking.{previous_task_of, tx_spacing, next_of, request_action, taken_of, request_of, none_of, asking_of}
 use Rattle.entered.specs.Entered.{sending_move, arrival_of, request_entered, with_spare, rearm_entered, ack_turn_entered, ack_wait_started, ack_wait_entered, entered_of}
@@ -81,7 +78,7 @@ rx_later : (q q' : RxTask) {p : Progress} → q.token ≡ q'.token
       buffer = q.buffer;
       transmit = false;
       wants = false;
-      number = AckSeqNum.None;
+      number = None;
       progress = p;
       limit = 1;
     })
@@ -96,18 +93,18 @@ rx_later q q' e =
       limit = λ t. let z : ◌≡◌ {A = ℕ} 0 1 = cc in omega arith;
     }
 
-tx_later : (q : TxTask) (wants : Bool) (n n' : AckSeqNum) (p p' : Progress) (l l' : ℕ) → l < l'
-    → ((k : ℕ) → n' ≡ AckSeqNum.Is k → n ≡ AckSeqNum.Is k) → p ≡ p'
+tx_later : (q : TxTask) (wants : Bool) (n n' : Option ℕ) (p p' : Progress) (l l' : ℕ) → l < l'
+    → ((k : ℕ) → n' ≡ Some k → n ≡ Some k) → p ≡ p'
     → LooserOne (tx_standing q wants n p (suc l)) (tx_standing q wants n' p' l')
 tx_later q wants n n' p p' l l' h keeps e =
     record { token = refl; transmit = refl; wants = refl; number = keeps; progress = λ t. e; limit = λ t. omega arith }
 
-no_number : (k : ℕ) {n : AckSeqNum} → AckSeqNum.None ≡ AckSeqNum.Is k → n ≡ AckSeqNum.Is k
-no_number k h = let z : ◌≡◌ {A = ℕ} 0 1 = ap (λ (m : AckSeqNum). cond (is_number m) 1 0) h in absurd (omega arith)
+no_number : (k : ℕ) {n : Option ℕ} → None ≡ Some k → n ≡ Some k
+no_number k h = let z : ◌≡◌ {A = ℕ} 0 1 = ap (λ (m : Option ℕ). cond (is_number m) 1 0) h in absurd (omega arith)
 
 -- ---- What a call can come to
 
-abbrev pub move_to : Settings → Wait → Action → Answers → AckSeqNum → Move
+abbrev pub move_to : Settings → Wait → Action → Answers → Option ℕ → Move
 move_to set wait action x k =
     record { refusal = 0; state = state_at set wait; reply = record { action = action; answers = x }; number = k }
 
@@ -144,17 +141,17 @@ acts spaced radio rollback something request asks outbound =
 -- own buffers as they were or with another spare one; or it enters a request. Each answer has its reason.
 pub data Legal (s : State) (pool : List ℕ) (c : Call) : Move → Type 0 where
   refuse : (k : ℕ) → eqb k 0 ≡ false → Legal s pool c (refused_of s k)
-  stay : {action : Action} {k : AckSeqNum} (w' : Wait) (x : Answers) (rest : List Standing) → Reasons s pool c x
+  stay : {action : Action} {k : Option ℕ} (w' : Wait) (x : Answers) (rest : List Standing) → Reasons s pool c x
       → ((b : Book) → enter pool c b ≡ aged b)
       → Pays s.set.headroom pool c x (raised (standing s)) rest → Looser (all_informed c action rest) (wait_standing s.set w')
       → buffers rest ≡ buffers (wait_standing s.set w') → Acts s c action s.set w'
       → Legal s pool c (move_to s.set w' action x k)
-  swap : {action : Action} {k : AckSeqNum} (set' : Settings) (w' : Wait) (x : Answers) (rest : List Standing)
+  swap : {action : Action} {k : Option ℕ} (set' : Settings) (w' : Wait) (x : Answers) (rest : List Standing)
       → Reasons s pool c x → ((b : Book) → enter pool c b ≡ aged b) → Pays s.set.headroom pool c x (raised (standing s)) rest
       → Looser (all_informed c action rest) (wait_standing set' w')
       → ((y : ℕ) → count y (own s.set) + count y (buffers rest) ≡ count y (own set') + count y (buffers (wait_standing set' w')))
       → set' ≡ with_spare s.set set'.spare_buffer → Acts s c action set' w' → Legal s pool c (move_to set' w' action x k)
-  enters : {q : Request} {action : Action} {k : AckSeqNum} (l : Left) (o : Owed) (rest : List Standing) → Reasons s pool c (answers_of o)
+  enters : {q : Request} {action : Action} {k : Option ℕ} (l : Left) (o : Option Answer) (rest : List Standing) → Reasons s pool c (answers_of o)
       → Pays s.set.headroom pool c (answers_of o) (raised (standing s) ++ new_standing (next_of s.set pool q q.task)) rest
       → Looser (all_informed c action rest) (wait_standing s.set (Wait.Entering (Transition.Request l (next_of s.set pool q q.task))))
       → buffers rest ≡ buffers (wait_standing s.set (Wait.Entering (Transition.Request l (next_of s.set pool q q.task))))
@@ -183,7 +180,7 @@ neither true y h = absurd (let z : ◌≡◌ {A = ℕ} 0 1 = cc in omega arith)
 neither false y h = (refl, h)
 
 -- ---- Rollback does not fit where a request's task is entered
-tx_stays : (l : Left) (q : TxTask) (k : AckSeqNum) → fits Call.Rollback (Wait.Entering (Transition.Request l (Next.Tx q k))) ≡ false
+tx_stays : (l : Left) (q : TxTask) (k : Option ℕ) → fits Call.Rollback (Wait.Entering (Transition.Request l (Next.Tx q k))) ≡ false
 unfolding fits rollback_fits goes_off
 tx_stays Left.Off q k = refl
 tx_stays (Left.Receiving p) q k = refl
@@ -209,10 +206,10 @@ module _ (set : Settings) (pool : List ℕ) where
   asked_spaced Asked.Idle r f = rw f
   asked_spaced (Asked.AfterWindow q) r f = rw f
   asked_spaced (Asked.AfterAckWindow q t) r f = rw f
-  asked_spaced (Asked.Receiving q i) r f = rw f.0.0 (ap NextTaskIfs.Is f.1)
-  asked_spaced (Asked.Sending q) r f = rw f.0 (ap NextTaskIfs.Is f.1)
-  asked_spaced (Asked.SendingAck i) r f = rw f.0 (ap NextTaskIfs.Is f.1)
-  asked_spaced (Asked.ReceivingAck a) r f = rw f.0 (ap NextTaskIfs.Is f.2)
+  asked_spaced (Asked.Receiving q i) r f = rw f.0.0 (ap Some f.1)
+  asked_spaced (Asked.Sending q) r f = rw f.0 (ap Some f.1)
+  asked_spaced (Asked.SendingAck i) r f = rw f.0 (ap Some f.1)
+  asked_spaced (Asked.ReceivingAck a) r f = rw f.0 (ap Some f.2)
 
   module _ (q : Request) where
     N : List Standing
@@ -267,7 +264,7 @@ module _ (set : Settings) (pool : List ℕ) where
 
     pub taken_legal : (a : Asked) → Legal (state_at set (Wait.Asking a)) pool (Call.Request q) (taken_of set pool a q)
     unfolding taken_of previous_task_of answers_of N H
-    taken_legal Asked.Idle = enters Left.Off Owed.None N tt refl (accepts (asked_action Asked.Idle) q.task) (its_buffer q.task) (request_acts Asked.Idle Left.Off) refl
+    taken_legal Asked.Idle = enters Left.Off None N tt refl (accepts (asked_action Asked.Idle) q.task) (its_buffer q.task) (request_acts Asked.Idle Left.Off) refl
     taken_legal (Asked.AfterWindow p) =
         enters Left.Off (previous_task_of set (Asked.AfterWindow p)).owed N (listening_ended p q refl refl)
         (paid refl refl refl (λ set' h e A. received_right set' pool _ _ e A RxResult.RxWindowEnded refl), refl)
@@ -277,16 +274,16 @@ module _ (set : Settings) (pool : List ℕ) where
         (paid refl refl refl (λ set' h e A. window_right set' pool _ _ e A t refl refl refl), refl)
         (accepts (asked_action (Asked.AfterAckWindow p t)) q.task) (its_buffer q.task) (request_acts (Asked.AfterAckWindow p t) Left.Off) refl
     taken_legal (Asked.Receiving p i) =
-        enters (Left.Receiving p) Owed.None _ tt refl (rx_later p p refl, accepts (asked_action (Asked.Receiving p i)) q.task) (ap (λ (l : List ℕ). p.buffer ∷ l) (its_buffer q.task))
+        enters (Left.Receiving p) None _ tt refl (rx_later p p refl, accepts (asked_action (Asked.Receiving p i)) q.task) (ap (λ (l : List ℕ). p.buffer ∷ l) (its_buffer q.task))
         (request_acts (Asked.Receiving p i) (Left.Receiving p)) refl
     taken_legal (Asked.Sending p) =
-        enters (Left.Sending p) Owed.None _ tt refl
+        enters (Left.Sending p) None _ tt refl
         (tx_later p false _ _ _ _ 1 2 (omega arith) (λ k h. h) refl, accepts (asked_action (Asked.Sending p)) q.task) (ap (λ (l : List ℕ). p.buffer ∷ l) (its_buffer q.task))
         (request_acts (Asked.Sending p) (Left.Sending p)) refl
     taken_legal (Asked.SendingAck i) =
-        enters Left.SendingAck Owed.None N tt refl (accepts (asked_action (Asked.SendingAck i)) q.task) (its_buffer q.task) (request_acts (Asked.SendingAck i) Left.SendingAck) refl
+        enters Left.SendingAck None N tt refl (accepts (asked_action (Asked.SendingAck i)) q.task) (its_buffer q.task) (request_acts (Asked.SendingAck i) Left.SendingAck) refl
     taken_legal (Asked.ReceivingAck a) =
-        enters (Left.ReceivingAck a) Owed.None _ tt refl
+        enters (Left.ReceivingAck a) None _ tt refl
         (tx_later a.task true _ _ _ _ 4 5 (omega arith) (λ k h. h) refl, accepts (asked_action (Asked.ReceivingAck a)) q.task) (ap (λ (l : List ℕ). a.task.buffer ∷ l) (its_buffer q.task))
         (request_acts (Asked.ReceivingAck a) (Left.ReceivingAck a)) refl
 
@@ -420,11 +417,11 @@ module _ (set : Settings) (pool : List ℕ) where
   leave_reasons w c (Left.ReceivingAck a) n (TaskResult.Rx RxResult.RxWindowEnded) e h = tt
   leave_reasons w c (Left.ReceivingAck a) n (TaskResult.Rx (RxResult.CrcError t k)) e h = unacknowledged a n (RxResult.CrcError t k) e h refl
 
-  then_reasons : (s : State) (c : Call) (x : Owed) (q : TxTask) (cause : Cause) → Reasons s pool c (answers_of x)
+  then_reasons : (s : State) (c : Call) (x : Option Answer) (q : TxTask) (cause : Cause) → Reasons s pool c (answers_of x)
       → Reason s pool c (to_tx q (Response.Error cause)) → Reasons s pool c (then_error q cause x)
   unfolding then_error answers_of
-  then_reasons s c Owed.None q cause R why = why
-  then_reasons s c (Owed.One a) q cause R why = (R, why)
+  then_reasons s c None q cause R why = why
+  then_reasons s c (Some a) q cause R why = (R, why)
 
   module _ (r : TaskResult) where
     arrive_legal : (entry : ℕ) (l : Left) (w : Wait) (n : Next) (x : Answers) → w ≡ Wait.Entering (Transition.Request l n)
@@ -432,11 +429,11 @@ module _ (set : Settings) (pool : List ℕ) where
         → Pays set.headroom pool (Call.Entered r entry) x (raised (wait_standing set w)) (raised (next_standing n))
         → Legal (state_at set w) pool (Call.Entered r entry) (arrival_of set x n)
     unfolding arrival_of sending_move fits rollback_fits allowed_of
-    arrive_legal entry l w (Next.Tx q (AckSeqNum.Is k)) x e R P =
+    arrive_legal entry l w (Next.Tx q (Some k)) x e R P =
         stay (Wait.Entering (Transition.AckWait q k)) x _ R (λ b. refl) P
         (tx_later q true _ _ _ _ 0 1 (omega arith) (λ j h. h) refl, tt) refl
         (acts (λ r f. refl) (λ r f. (refl, rw e at f)) refl refl tt refl refl)
-    arrive_legal entry l w (Next.Tx q AckSeqNum.None) x e R P =
+    arrive_legal entry l w (Next.Tx q None) x e R P =
         stay (Wait.Asking (Asked.Sending q)) x _ R (λ b. refl) P
         (tx_later q false _ _ _ _ 0 1 (omega arith) (λ j h. h) refl, tt) refl
         (acts (λ r f. tt) (λ r f. (refl, rw e at f)) refl refl tt refl refl)
@@ -457,14 +454,14 @@ module _ (set : Settings) (pool : List ℕ) where
           (rw (raised_append (left_standing set l) (next_standing n)) (leave_pays (Call.Entered r entry) l r (raised (next_standing n)) refl ok)))
 
       -- the error of the next request comes after what was owed for the task that is left
-      then_pays : (x : Owed) (q : TxTask) (k : AckSeqNum) (cause : Cause) (os : List Standing)
+      then_pays : (x : Option Answer) (q : TxTask) (k : Option ℕ) (cause : Cause) (os : List Standing)
           → Pays set.headroom pool (Call.Fallback r cause) (answers_of x) os (raised (next_standing (Next.Tx q k)))
           → Pays set.headroom pool (Call.Fallback r cause) (then_error q cause x) os []
       unfolding then_error answers_of
-      then_pays Owed.None q k cause os P =
+      then_pays None q k cause os P =
           rw P (paid refl refl refl (λ set' g e A. error_right set' pool _ _ e A r cause refl refl refl), refl)
-      then_pays (Owed.One a) q k cause [] P = absurd P
-      then_pays (Owed.One a) q k cause (o ∷ os) P =
+      then_pays (Some a) q k cause [] P = absurd P
+      then_pays (Some a) q k cause (o ∷ os) P =
           rw P.1 (P.0, (paid refl refl refl (λ set' g e A. error_right set' pool _ _ e A r cause refl refl refl), refl))
 
       request_fell_back_legal : (n : Next) (cause : Cause) → Legal (state_at set (Wait.Entering (Transition.Request l n))) pool (Call.Fallback r cause) (request_fell_back (state_at set (Wait.Entering (Transition.Request l n))) pool l r cause n)
@@ -512,14 +509,14 @@ module _ (set : Settings) (pool : List ℕ) where
     unfolding ack_wait_entered ack_wait_started fits
     ack_wait_legal q k entry = go r
       where
-        started : (t : ℕ) (l : LatestAckStart)
+        started : (t : ℕ) (l : Option ℕ)
             → Legal (state_at set (Wait.Entering (Transition.AckWait q k))) pool (Call.Entered (TaskResult.Sent t) entry) (ack_wait_started (state_at set (Wait.Entering (Transition.AckWait q k))) (record { task = q; number = k; time = t }) l)
-        started t (LatestAckStart.At u) =
+        started t (Some u) =
             stay (Wait.Stopping (Stop.Ack (record { task = q; number = k; time = t }))) Answers.None
             (raised (wait_standing set (Wait.Entering (Transition.AckWait q k)))) tt (λ b. refl) refl
-            (tx_later q true (AckSeqNum.Is k) (AckSeqNum.Is k) _ _ 1 2 (omega arith) (λ j h. h) refl, tt) refl
+            (tx_later q true (Some k) (Some k) _ _ 1 2 (omega arith) (λ j h. h) refl, tt) refl
             (acts (λ r f. tt) (λ r f. (refl, f.0, f.1)) refl refl tt refl refl)
-        started t LatestAckStart.Exceeds = refuse 11 refl
+        started t None = refuse 11 refl
 
         go : (x : TaskResult) → Legal (state_at set (Wait.Entering (Transition.AckWait q k))) pool (Call.Entered x entry) (ack_wait_entered (state_at set (Wait.Entering (Transition.AckWait q k))) q k entry x)
         go TaskResult.Off = five
@@ -542,7 +539,7 @@ module _ (set : Settings) (pool : List ℕ) where
 
   -- ---- From one wait of a receive request, or of a transmit request whose ACK is awaited, to another
   module _ (w : Wait) (c : Call) (other : (b : Book) → enter pool c b ≡ aged b) where
-    rx_moves : {action : Action} {k : AckSeqNum} (q : RxTask) (w' : Wait) → wait_standing set w ≡ rx_standing q ∷ []
+    rx_moves : {action : Action} {k : Option ℕ} (q : RxTask) (w' : Wait) → wait_standing set w ≡ rx_standing q ∷ []
         → wait_standing set w' ≡ rx_standing q ∷ [] → Acts (state_at set w) c action set w'
         → Legal (state_at set w) pool c (move_to set w' action Answers.None k)
     rx_moves {action} q w' e e' A =
@@ -610,7 +607,7 @@ module _ (set : Settings) (pool : List ℕ) where
   stopped_legal (Stop.Ack a) (StopResult.RxWindowEnded y) =
       guard_legal _ pool (Call.Stopped (StopResult.RxWindowEnded y)) _ _
       (λ ok. stay (Wait.Asking (Asked.AfterAckWindow a.task a.time)) Answers.None _ tt (λ b. refl) refl
-      (tx_later a.task true _ AckSeqNum.None _ _ 2 4 (omega arith) (λ k h. no_number k h) refl, tt) refl
+      (tx_later a.task true _ None _ _ 2 4 (omega arith) (λ k h. no_number k h) refl, tt) refl
       (acts (λ r f. tt) (λ r f. refl) refl refl tt refl refl))
   stopped_legal (Stop.Ack a) StopResult.Failed =
       stay (Wait.Stopping (Stop.AckAgain a)) Answers.None _ tt (λ b. refl) refl
@@ -623,7 +620,7 @@ module _ (set : Settings) (pool : List ℕ) where
   stopped_legal (Stop.AckAgain a) (StopResult.RxWindowEnded y) =
       guard_legal _ pool (Call.Stopped (StopResult.RxWindowEnded y)) _ _
       (λ ok. stay (Wait.Asking (Asked.AfterAckWindow a.task a.time)) Answers.None _ tt (λ b. refl) refl
-      (tx_later a.task true _ AckSeqNum.None _ _ 3 4 (omega arith) (λ k h. no_number k h) refl, tt) refl
+      (tx_later a.task true _ None _ _ 3 4 (omega arith) (λ k h. no_number k h) refl, tt) refl
       (acts (λ r f. tt) (λ r f. refl) refl refl tt refl refl))
   stopped_legal (Stop.AckAgain a) StopResult.Failed = five
 
@@ -649,15 +646,15 @@ module _ (set : Settings) (pool : List ℕ) where
       facts : PreliminaryFrameInfo
       facts = info_of (take arrived (drop (frame_start set q.buffer) pool))
 
-      received : (k : AckSeqNum) → Legal (state_at set (Wait.Reading q)) pool (Call.Header arrived length) (receive_move set q (ifs_of length) k)
-      received (AckSeqNum.Is k) =
+      received : (k : Option ℕ) → Legal (state_at set (Wait.Reading q)) pool (Call.Header arrived length) (receive_move set q (ifs_of length) k)
+      received (Some k) =
           rx_moves (Wait.Reading q) (Call.Header arrived length) (λ b. refl) q (Wait.Entering (Transition.AckTurn q (ifs_of length))) refl refl
           (acts (λ r f. refl) (λ r f. (f, refl)) refl refl tt refl refl)
-      received AckSeqNum.None =
+      received None =
           rx_moves (Wait.Reading q) (Call.Header arrived length) (λ b. refl) q (Wait.Asking (Asked.Receiving q (ifs_of length))) refl refl
           (acts (λ r f. tt) (λ r f. (f, refl)) refl refl tt refl refl)
 
-      ours : (t : Bool) (k : AckSeqNum) → Legal (state_at set (Wait.Reading q)) pool (Call.Header arrived length) (cond t (receive_move set q (ifs_of length) k) (rearm_move set q))
+      ours : (t : Bool) (k : Option ℕ) → Legal (state_at set (Wait.Reading q)) pool (Call.Header arrived length) (cond t (receive_move set q (ifs_of length) k) (rearm_move set q))
       ours true k = received k
       ours false k =
           rx_moves (Wait.Reading q) (Call.Header arrived length) (λ b. refl) q (Wait.Entering (Transition.Rearm q)) refl refl

@@ -1,7 +1,7 @@
 -- When an acknowledgement is sent, said of a whole call on every state and pool: document 01, "Waits", Header, as document 02 changes
 -- it (E4). The definitions of the Header call are crates/reading/specs/Reading.antt; here is what they come to.
 -- Assumes nothing.
-use Rattle.std.specs.Prelude.{ℕ, ◌≡◌, Bool, true, false, List, take, drop}
+use Rattle.std.specs.Prelude.{ℕ, ◌≡◌, Bool, true, false, List, take, drop, Option, Some}
 use Rattle.radio_frame.specs.declared.Settings.{Settings}
 use Rattle.radio_frame.specs.RadioFrame.{frame_start}
 use Rattle.phy.specs.declared.Ifs.{Ifs}
@@ -9,23 +9,19 @@ use Rattle.phy.specs.Phy.{ifs_of}
 use Rattle.ack.specs.Ack.{seq_nr_set_at}
 use Rattle.frame_control.specs.declared.FrameControl.{FrameControl}
 use Rattle.header.specs.declared.Address.{Address}
-use Rattle.header.specs.declared.AddressingFact.{AddressingFact}
 use Rattle.header.specs.declared.AddressingFields.{AddressingFields}
-use Rattle.header.specs.declared.FrameControlFact.{FrameControlFact}
 use Rattle.header.specs.declared.PreliminaryFrameInfo.{PreliminaryFrameInfo}
-use Rattle.header.specs.declared.SeqNrFact.{SeqNrFact}
 use Rattle.header.specs.Header.{info_of}
 use Rattle.filter.specs.Filter.{for_us}
 use Rattle.tasks.specs.declared.Action.{Action}
 use Rattle.tasks.specs.declared.Answers.{Answers}
 use Rattle.tasks.specs.declared.Call.{Call}
-use Rattle.tasks.specs.declared.NextTaskIfs.{NextTaskIfs}
 use Rattle.tasks.specs.declared.RxTask.{RxTask}
 use Rattle.tasks.specs.declared.State.{State}
 use Rattle.tasks.specs.declared.Timestamp.{Timestamp}
 use Rattle.tasks.specs.declared.Transition.{Transition}
 use Rattle.tasks.specs.declared.Wait.{Wait}
-use Rattle.engine.specs.declared.Outcome.{Outcome}
+use Rattle.engine.specs.Step.{Outcome}
 use Rattle.engine.specs.Step.{step_of, step_pool}
 
 -- "how many bytes have arrived in the listening buffer's frame": what these say
@@ -41,13 +37,13 @@ pub record AckDue (s : State) (pool : List ℕ) (c : Call) (q : RxTask) (arrived
   pub is_for_us : for_us s.set.hardware_addr s.set.pan_id s.set.implicit_broadcast (arrived_info s.set pool q arrived) ≡ true
   -- .. with request bit ..
   pub control : FrameControl
-  pub is_control : (arrived_info s.set pool q arrived).frame_control ≡ FrameControlFact.Is control
+  pub is_control : (arrived_info s.set pool q arrived).frame_control ≡ Some control
   pub requests : control.ack_request ≡ true
   -- .. and sequence number"
-  pub number : (arrived_info s.set pool q arrived).seq_nr ≡ SeqNrFact.Is k
+  pub number : (arrived_info s.set pool q arrived).seq_nr ≡ Some k
   -- E4: no frame "whose destination is short FFFF, or which passed by implicit broadcast", as one for us without a destination did
   pub addressing : AddressingFields
-  pub is_addressing : (arrived_info s.set pool q arrived).addressing_fields ≡ AddressingFact.Are addressing
+  pub is_addressing : (arrived_info s.set pool q arrived).addressing_fields ≡ Some addressing
   pub not_broadcast : addressing.dst_address ≡ Address.Short 65535 → ⊥
   pub not_absent : addressing.dst_address ≡ Address.Absent → ⊥
 
@@ -57,14 +53,14 @@ pub record TurnsToAck (s : State) (pool : List ℕ) (q : RxTask) (length k : ℕ
   pub state : o.state ≡ record { set = s.set; wait = Wait.Entering (Transition.AckTurn q (ifs_of length)) }
   pub reply :
       o.reply
-      ≡ record { action = Action.Tx s.set.ack_buffer 3 false Timestamp.BestEffort (NextTaskIfs.Is Ifs.Aifs) true; answers = Answers.None }
+      ≡ record { action = Action.Tx s.set.ack_buffer 3 false Timestamp.BestEffort (Some Ifs.Aifs) true; answers = Answers.None }
   pub pool_bytes : written ≡ seq_nr_set_at pool (frame_start s.set s.set.ack_buffer) k
 
 -- nothing is sent from the ACK buffer, an accepted call leads to another wait, and no byte is written
 pub record NoAck (s : State) (pool : List ℕ) (o : Outcome) (written : List ℕ) : Type 0 where
   pub wait : o.refusal ≡ 0 → (q : RxTask) (i : Ifs) → o.state.wait ≡ Wait.Entering (Transition.AckTurn q i) → ⊥
   pub action :
-      (n : ℕ) (cca : Bool) (start : Timestamp) (ifs : NextTaskIfs) (rollback : Bool) →
+      (n : ℕ) (cca : Bool) (start : Timestamp) (ifs : Option Ifs) (rollback : Bool) →
       o.reply.action ≡ Action.Tx s.set.ack_buffer n cca start ifs rollback → ⊥
   pub pool_bytes : written ≡ pool
 

@@ -1,14 +1,13 @@
 -- Laws of the actions, in words of their own: the calls and the definitions of the waits mirror each other, so a misreading in both
 -- would go unseen. Document 01, "Spacing and time" and "Waits".
 -- Assumes nothing.
-use Rattle.std.specs.Prelude.{ℕ, ◌≡◌, Bool, true, false, cond, List}
+use Rattle.std.specs.Prelude.{ℕ, ◌≡◌, Bool, true, false, cond, List, Option, Some, None}
 use Rattle.radio_frame.specs.declared.Settings.{Settings}
 use Rattle.phy.specs.declared.Ifs.{Ifs}
 use Rattle.phy.specs.Phy.{ifs_of}
 use Rattle.tasks.specs.declared.Action.{Action}
 use Rattle.tasks.specs.declared.Asked.{Asked}
 use Rattle.tasks.specs.declared.Call.{Call}
-use Rattle.tasks.specs.declared.NextTaskIfs.{NextTaskIfs}
 use Rattle.tasks.specs.declared.Request.{Request}
 use Rattle.tasks.specs.declared.State.{State}
 use Rattle.tasks.specs.declared.Stop.{Stop}
@@ -16,7 +15,7 @@ use Rattle.tasks.specs.declared.Task.{Task}
 use Rattle.tasks.specs.declared.Transition.{Transition}
 use Rattle.tasks.specs.declared.Wait.{Wait}
 use Rattle.requests.specs.Requests.{allowed_of}
-use Rattle.engine.specs.declared.Outcome.{Outcome}
+use Rattle.engine.specs.Step.{Outcome}
 use Rattle.engine.specs.Step.{step_of}
 use Rattle.engine.specs.Refusals.{fits}
 use Rattle.engine.specs.Book.{Radio}
@@ -41,8 +40,8 @@ rollback_on (Action.Off rollback) = rollback
 -- "Request: token .., direction, start .., buffer, and for Tx the length without checksum and a channel-check flag": the radio is told
 -- to do just that, with some spacing, rollback off
 abbrev pub TaskDone : Request → Task → Action → Type 0
-TaskDone q (Task.Tx length cca) action = (ifs : NextTaskIfs) × (action ≡ Action.Tx q.buffer length cca q.start ifs false)
-TaskDone q Task.Rx action = (ifs : NextTaskIfs) × (action ≡ Action.Rx q.buffer q.start ifs false)
+TaskDone q (Task.Tx length cca) action = (ifs : Option Ifs) × (action ≡ Action.Tx q.buffer length cca q.start ifs false)
+TaskDone q Task.Rx action = (ifs : Option Ifs) × (action ≡ Action.Rx q.buffer q.start ifs false)
 
 abbrev pub RequestDone : Call → Action → Type 0
 RequestDone (Call.Request q) action = TaskDone q q.task action
@@ -68,14 +67,14 @@ AcceptedActs = (s : State) (pool : List ℕ) (c : Call) → (step_of s pool c).r
 
 -- "A Tx or Rx scheduled out of receiving or sending carries the spacing of the last data frame; .. whatever starts from off carr[ies]
 -- none."
-abbrev pub request_ifs : Radio → NextTaskIfs
-request_ifs r = cond r.on (NextTaskIfs.Is (ifs_of r.length)) NextTaskIfs.None
+abbrev pub request_ifs : Radio → Option Ifs
+request_ifs r = cond r.on (Some (ifs_of r.length)) None
 
 -- a Tx; no other call leads to one
-abbrev pub TxSpaced : Radio → NextTaskIfs → Call → Type 0
+abbrev pub TxSpaced : Radio → Option Ifs → Call → Type 0
 TxSpaced r ifs (Call.Request q) = ifs ≡ request_ifs r
 -- "before an ACK: the ACK spacing"
-TxSpaced r ifs (Call.Header arrived length) = ifs ≡ NextTaskIfs.Is Ifs.Aifs
+TxSpaced r ifs (Call.Header arrived length) = ifs ≡ Some Ifs.Aifs
 TxSpaced r ifs Call.None = ⊥
 TxSpaced r ifs Call.FrameStart = ⊥
 TxSpaced r ifs (Call.OutboundSeen start cca) = ⊥
@@ -85,12 +84,12 @@ TxSpaced r ifs (Call.Fallback x cause) = ⊥
 TxSpaced r ifs Call.Rollback = ⊥
 
 -- an Rx; no other call leads to one
-abbrev pub RxSpaced : Radio → NextTaskIfs → Call → Type 0
+abbrev pub RxSpaced : Radio → Option Ifs → Call → Type 0
 RxSpaced r ifs (Call.Request q) = ifs ≡ request_ifs r
 -- "the re-arm .. carr[ies] none"
-RxSpaced r ifs (Call.Header arrived length) = ifs ≡ NextTaskIfs.None
+RxSpaced r ifs (Call.Header arrived length) = ifs ≡ None
 -- "listen with the spare buffer after ACK spacing"
-RxSpaced r ifs (Call.Entered x entry) = ifs ≡ NextTaskIfs.Is Ifs.Aifs
+RxSpaced r ifs (Call.Entered x entry) = ifs ≡ Some Ifs.Aifs
 RxSpaced r ifs Call.None = ⊥
 RxSpaced r ifs Call.FrameStart = ⊥
 RxSpaced r ifs (Call.OutboundSeen start cca) = ⊥

@@ -1,9 +1,8 @@
 -- What each wait says of the unanswered requests, in the book's words. That the book, which is kept without the state, says the same
 -- after every list of calls is a claim (Lists.antt).
 -- Assumes nothing.
-use Rattle.std.specs.Prelude.{ℕ, ◌≤◌, ◌≡◌, Bool, true, false, List, [], ◌∷◌, ◌++◌}
+use Rattle.std.specs.Prelude.{ℕ, ◌≤◌, ◌≡◌, Bool, true, false, List, [], ◌∷◌, ◌++◌, Option, Some, None}
 use Rattle.radio_frame.specs.declared.Settings.{Settings}
-use Rattle.radio_frame.specs.declared.AckSeqNum.{AckSeqNum}
 use Rattle.tasks.specs.declared.Asked.{Asked}
 use Rattle.tasks.specs.declared.AwaitedAck.{AwaitedAck}
 use Rattle.tasks.specs.declared.Left.{Left}
@@ -23,11 +22,11 @@ pub record Standing : Type 0 where
   pub buffer : ℕ
   pub transmit : Bool
   pub wants : Bool
-  pub number : AckSeqNum
+  pub number : Option ℕ
   pub progress : Progress
   pub limit : ℕ
 
-abbrev pub tx_standing : TxTask → Bool → AckSeqNum → Progress → ℕ → Standing
+abbrev pub tx_standing : TxTask → Bool → Option ℕ → Progress → ℕ → Standing
 tx_standing q wants number progress limit =
     record {
       token = q.token;
@@ -46,18 +45,18 @@ rx_standing q =
       buffer = q.buffer;
       transmit = false;
       wants = false;
-      number = AckSeqNum.None;
+      number = None;
       progress = accepted;
       limit = 0;
     }
 
 -- a frame that wants no ACK, while it is sent: nothing is received for it
 abbrev pub sending : TxTask → ℕ → Standing
-sending q limit = tx_standing q false AckSeqNum.None (entered no_buffer_of) limit
+sending q limit = tx_standing q false None (entered no_buffer_of) limit
 
 -- a frame whose ACK is awaited, in the spare buffer
 abbrev pub awaiting : AwaitedAck → Progress → ℕ → Standing
-awaiting a progress limit = tx_standing a.task true (AckSeqNum.Is a.number) progress limit
+awaiting a progress limit = tx_standing a.task true (Some a.number) progress limit
 
 abbrev pub left_standing : Settings → Left → List Standing
 left_standing set Left.Off = []
@@ -74,7 +73,7 @@ next_standing Next.Off = []
 abbrev pub asked_standing : Settings → Asked → List Standing
 asked_standing set Asked.Idle = []
 asked_standing set (Asked.AfterWindow q) = rx_standing q ∷ []
-asked_standing set (Asked.AfterAckWindow q t) = tx_standing q true AckSeqNum.None (window_ended t) 4 ∷ []
+asked_standing set (Asked.AfterAckWindow q t) = tx_standing q true None (window_ended t) 4 ∷ []
 asked_standing set (Asked.Receiving q i) = rx_standing q ∷ []
 asked_standing set (Asked.Sending q) = sending q 1 ∷ []
 asked_standing set (Asked.SendingAck i) = []
@@ -90,7 +89,7 @@ abbrev pub transition_standing : Settings → Transition → List Standing
 transition_standing set (Transition.Request l n) = left_standing set l ++ next_standing n
 transition_standing set (Transition.Rearm q) = rx_standing q ∷ []
 transition_standing set (Transition.AckTurn q i) = rx_standing q ∷ []
-transition_standing set (Transition.AckWait q k) = tx_standing q true (AckSeqNum.Is k) (entered (in_buffer_of set.spare_buffer)) 1 ∷ []
+transition_standing set (Transition.AckWait q k) = tx_standing q true (Some k) (entered (in_buffer_of set.spare_buffer)) 1 ∷ []
 
 abbrev pub wait_standing : Settings → Wait → List Standing
 wait_standing set (Wait.Asking a) = asked_standing set a
@@ -108,7 +107,7 @@ pub record AgreesOne (o : Standing) (e : Entry) : Type 0 where
   pub token : e.token ≡ o.token
   pub transmit : e.transmit ≡ o.transmit
   pub wants : is_number e.number ≡ o.wants
-  pub number : (k : ℕ) → o.number ≡ AckSeqNum.Is k → e.number ≡ AckSeqNum.Is k
+  pub number : (k : ℕ) → o.number ≡ Some k → e.number ≡ Some k
   pub progress : o.transmit ≡ true → e.progress ≡ o.progress
   pub age : o.transmit ≡ true → e.age ≤ o.limit
 

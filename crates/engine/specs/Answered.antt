@@ -2,9 +2,8 @@
 -- acknowledgement", as one claim in the book's words. `AnsweredRight` is the claim; Lists.antt makes it of every answer of every list of
 -- calls.
 -- Assumes nothing.
-use Rattle.std.specs.Prelude.{ℕ, ◌≡◌, Bool, true, false, List, [], ◌∷◌, ◌⊎◌, ◌↔◌}
+use Rattle.std.specs.Prelude.{ℕ, ◌≡◌, Bool, true, false, List, [], ◌∷◌, ◌⊎◌, ◌↔◌, Some, None}
 use Rattle.radio_frame.specs.declared.Settings.{Settings}
-use Rattle.radio_frame.specs.declared.AckSeqNum.{AckSeqNum}
 use Rattle.radio_frame.specs.RadioFrame.{frame_head}
 use Rattle.ack.specs.Ack.{acknowledges}
 use Rattle.tasks.specs.declared.Call.{Call}
@@ -48,7 +47,7 @@ pub record AnsweredRight (set : Settings) (x : Settled) : Type 0 where
   -- time is the one at which its frame was told sent.
   pub sent_exactly :
       (number : ℕ) →
-      x.entry.number ≡ AckSeqNum.Is number →
+      x.entry.number ≡ Some number →
       (time : ℕ) →
       x.response ≡ Response.Sent time ↔ Heard set x number time true
   -- Nack is answered only if its frame wanted an ACK and was told sent at that time, and then its window ended or what the radio tells
@@ -56,7 +55,7 @@ pub record AnsweredRight (set : Settings) (x : Settled) : Type 0 where
   pub nack_only :
       (time : ℕ) →
       x.response ≡ Response.Nack time →
-      (number : ℕ) × (x.entry.number ≡ AckSeqNum.Is number)
+      (number : ℕ) × (x.entry.number ≡ Some number)
       × ((x.entry.progress ≡ window_ended time) ⊎ Heard set x number time false)
   -- An error is answered only if the radio could not enter sending its frame.
   pub error_only :
@@ -66,7 +65,7 @@ pub record AnsweredRight (set : Settings) (x : Settled) : Type 0 where
   -- One whose frame wanted none is answered Sent only if the radio had entered sending it and tells in this call that it was sent, at
   -- that time.
   pub sent_only :
-      x.entry.number ≡ AckSeqNum.None →
+      x.entry.number ≡ None →
       (time : ℕ) →
       x.response ≡ Response.Sent time →
       (x.entry.progress ≡ entered no_buffer_of) × Tells x.call (TaskResult.Sent time)

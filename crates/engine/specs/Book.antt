@@ -2,10 +2,9 @@
 -- "It is kept from start, the calls, the pool as each call finds it, and the replies alone, never from the state." The imports show
 -- it: no state and no wait is among them.
 -- Assumes nothing.
-use Rattle.std.specs.Prelude.{ℕ, suc, ◌+◌, Bool, true, false, cond, not, ◌&&◌, ◌||◌, List, [], ◌∷◌, ◌++◌, eqb}
+use Rattle.std.specs.Prelude.{ℕ, suc, ◌+◌, Bool, true, false, cond, not, ◌&&◌, ◌||◌, List, [], ◌∷◌, ◌++◌, eqb, Option, Some, None}
 use Rattle.std.specs.Bool.{beq}
 use Rattle.radio_frame.specs.declared.Settings.{Settings}
-use Rattle.radio_frame.specs.declared.AckSeqNum.{AckSeqNum}
 use Rattle.radio_frame.specs.RadioFrame.{frame_head, ack_seq_num_of}
 use Rattle.tasks.specs.declared.Action.{Action}
 use Rattle.tasks.specs.declared.Answer.{Answer}
@@ -160,16 +159,16 @@ radio_after fcs c action r =
 -- ---- The book
 
 -- whether a number was noted
-abbrev pub is_number : AckSeqNum → Bool
-is_number (AckSeqNum.Is k) = true
-is_number AckSeqNum.None = false
+abbrev pub is_number : Option ℕ → Bool
+is_number (Some k) = true
+is_number None = false
 
 -- an unanswered request: its token, whether it is a transmit request, the number noted at acceptance if its frame wanted an ACK,
 -- what the calls so far say of it (a receive request stays as it was accepted), and how many accepted calls have followed its own
 pub record Entry : Type 0 where
   pub token : ℕ
   pub transmit : Bool
-  pub number : AckSeqNum
+  pub number : Option ℕ
   pub progress : Progress
   pub age : ℕ
 
@@ -217,7 +216,7 @@ entry_of set pool q (Task.Tx length cca) =
       age = 0;
     }
 entry_of set pool q Task.Rx =
-    record { token = q.token; transmit = false; number = AckSeqNum.None; progress = accepted; age = 0 }
+    record { token = q.token; transmit = false; number = None; progress = accepted; age = 0 }
 
 -- one more accepted call has followed each of them
 abbrev pub older : List Entry → List Entry

@@ -7,7 +7,7 @@ use Rattle.tasks.specs.declared.Answers.{Answers}
 use Rattle.tasks.specs.declared.Call.{Call}
 use Rattle.tasks.specs.declared.Request.{Request}
 use Rattle.tasks.specs.declared.State.{State}
-use Rattle.engine.specs.declared.Outcome.{Outcome}
+use Rattle.engine.specs.Step.{Outcome}
 use Rattle.engine.specs.Step.{step_of}
 use Rattle.engine.specs.Refusals.{fits}
 use Rattle.engine.specs.Book.{Entry, Book, book_step, start_book, has_token, has_number}

@@ -10,7 +10,7 @@ use Rattle.tasks.specs.declared.RxResult.{RxResult}
 use Rattle.tasks.specs.declared.State.{State}
 use Rattle.tasks.specs.declared.StopResult.{StopResult}
 use Rattle.tasks.specs.declared.TaskResult.{TaskResult}
-use Rattle.engine.specs.declared.Outcome.{Outcome}
+use Rattle.engine.specs.Step.{Outcome}
 use Rattle.engine.specs.Step.{step_of, step_pool}
 
 -- ---- Every link quality k replaced by f k, in what a call tells and in what it gives; all else stays

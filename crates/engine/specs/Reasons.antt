@@ -2,8 +2,7 @@
 -- every state, every answer names a request that the state holds and has its reason. How the state came to hold it is the book's
 -- matter (Answered.antt).
 -- Assumes nothing.
-use Rattle.std.specs.Prelude.{ℕ, ◌≡◌, true, false, cond, List}
-use Rattle.radio_frame.specs.declared.AckSeqNum.{AckSeqNum}
+use Rattle.std.specs.Prelude.{ℕ, ◌≡◌, true, false, cond, List, Option}
 use Rattle.phy.specs.declared.Ifs.{Ifs}
 use Rattle.tasks.specs.declared.Answer.{Answer}
 use Rattle.tasks.specs.declared.Answers.{Answers}
@@ -39,7 +38,7 @@ pub data Reason (s : State) (pool : List ℕ) (c : Call) : Answer → Type 0 whe
   received_acknowledged : (q : RxTask) (i : Ifs) (r : RxResult) → s.wait ≡ Wait.Entering (Transition.AckTurn q i)
       → Tells c (TaskResult.Rx r) → Reason s pool c (to_rx q (Response.Received r))
   -- an error: the radio could not enter sending that request's frame
-  failed : (l : Left) (q : TxTask) (k : AckSeqNum) (r : TaskResult) (cause : Cause)
+  failed : (l : Left) (q : TxTask) (k : Option ℕ) (r : TaskResult) (cause : Cause)
       → s.wait ≡ Wait.Entering (Transition.Request l (Next.Tx q k)) → c ≡ Call.Fallback r cause → Reason s pool c (to_tx q (Response.Error cause))
   -- Sent, for a frame that wanted no ACK: the radio left sending it, at that time
   sent : (q : TxTask) (n : Next) (t : ℕ) → s.wait ≡ Wait.Entering (Transition.Request (Left.Sending q) n) → Tells c (TaskResult.Sent t)

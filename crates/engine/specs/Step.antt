@@ -1,24 +1,31 @@
 -- Start and the nine calls: document 01, "Settings and pool", "Waits" and "Refusals, in checking order".
 -- Assumes nothing.
-use Rattle.std.specs.Prelude.{ℕ, cond, List, eqb, length}
+use Rattle.std.specs.Prelude.{ℕ, cond, List, eqb, length, Option, Some, None, Result, Ok, Err}
+use Rattle.refusals.specs.declared.Refusal.{Refusal}
+use Rattle.refusals.specs.Refusals.{refusal_number}
 use Rattle.radio_frame.specs.declared.Settings.{Settings}
-use Rattle.radio_frame.specs.declared.AckSeqNum.{AckSeqNum}
 use Rattle.radio_frame.specs.Settings.{settings_refusal}
 use Rattle.radio_frame.specs.RadioFrame.{frame_start}
 use Rattle.ack.specs.Ack.{imm_ack_frame_at, seq_nr_set_at}
 use Rattle.tasks.specs.declared.Answers.{Answers}
 use Rattle.tasks.specs.declared.Asked.{Asked}
 use Rattle.tasks.specs.declared.Call.{Call}
+use Rattle.tasks.specs.declared.Reply.{Reply}
 use Rattle.tasks.specs.declared.State.{State}
 use Rattle.tasks.specs.declared.Wait.{Wait}
-use Rattle.moves.specs.declared.Move.{Move}
-use Rattle.moves.specs.Move.{guarded_of, to_idle}
+use Rattle.moves.specs.Move.{Move}
+use Rattle.moves.specs.Move.{refused_of, guarded_of, to_idle}
 use Rattle.asking.specs.Asking.{asking_of}
 use Rattle.entering.specs.Entering.{entering_of}
 use Rattle.listening.specs.Listening.{listening_of}
 use Rattle.stopping.specs.Stopping.{stopping_of}
 use Rattle.reading.specs.Reading.{reading_of}
-use Rattle.engine.specs.declared.Outcome.{Outcome}
+
+-- what a call returns: its refusal, or 0; the next state, which a refusal leaves as it was; the reply
+pub record Outcome : Type 0 where
+  pub refusal : ℕ
+  pub state : State
+  pub reply : Reply
 
 -- what the wait does with the call
 unfoldable pub wait_move : State → List ℕ → Call → Wait → Move
@@ -35,10 +42,15 @@ move_of s pool c = guarded_of s (settings_refusal s.set (length pool)) (wait_mov
 abbrev pub outcome_of : Move → Outcome
 outcome_of m = record { refusal = m.refusal; state = m.state; reply = m.reply }
 
+-- an outcome as it is returned, of a call on a state: the next state and the reply, or the refusal
+abbrev pub outcome_told : State → Result (State × Reply) Refusal → Outcome
+outcome_told s (Ok (state, reply)) = record { refusal = 0; state = state; reply = reply }
+outcome_told s (Err refusal) = outcome_of (refused_of s (refusal_number refusal))
+
 -- "write it in the ACK frame": the one byte that a call may write
-unfoldable pub written_by : Settings → List ℕ → AckSeqNum → List ℕ
-written_by set pool (AckSeqNum.Is k) = seq_nr_set_at pool (frame_start set set.ack_buffer) k
-written_by set pool AckSeqNum.None = pool
+unfoldable pub written_by : Settings → List ℕ → Option ℕ → List ℕ
+written_by set pool (Some k) = seq_nr_set_at pool (frame_start set set.ack_buffer) k
+written_by set pool None = pool
 
 -- a call: what it returns, and every byte of the pool after it
 unfoldable pub step_of : State → List ℕ → Call → Outcome

@@ -1,10 +1,8 @@
 -- What comes after the task that was left: document 01, "Waits", Entered.
 -- Assumes nothing.
-use Rattle.std.specs.Prelude.{ℕ, false, List}
+use Rattle.std.specs.Prelude.{ℕ, false, List, Option, Some, None}
 use Rattle.radio_frame.specs.declared.Settings.{Settings}
-use Rattle.radio_frame.specs.declared.AckSeqNum.{AckSeqNum}
 use Rattle.phy.specs.declared.Ifs.{Ifs}
-use Rattle.phy.specs.declared.LatestAckStart.{LatestAckStart}
 use Rattle.phy.specs.Phy.{latest_ack_start_of}
 use Rattle.tasks.specs.declared.Action.{Action}
 use Rattle.tasks.specs.declared.Answers.{Answers}
@@ -13,7 +11,6 @@ use Rattle.tasks.specs.declared.AwaitedAck.{AwaitedAck}
 use Rattle.tasks.specs.declared.Left.{Left}
 use Rattle.tasks.specs.declared.Next.{Next}
 use Rattle.tasks.specs.declared.RxTask.{RxTask}
-use Rattle.tasks.specs.declared.NextTaskIfs.{NextTaskIfs}
 use Rattle.tasks.specs.declared.State.{State}
 use Rattle.tasks.specs.declared.Stop.{Stop}
 use Rattle.tasks.specs.declared.StopListening.{StopListening}
@@ -24,16 +21,16 @@ use Rattle.tasks.specs.declared.TxTask.{TxTask}
 use Rattle.tasks.specs.declared.Wait.{Wait}
 use Rattle.tasks.specs.Answers.{answers_of}
 use Rattle.results.specs.Results.{leave_of, leave_receiving}
-use Rattle.moves.specs.declared.Move.{Move}
+use Rattle.moves.specs.Move.{Move}
 use Rattle.moves.specs.Move.{unfit, refused_of, accepted_of, guarded_of, to_idle, ask_any, listen_on, stop_move}
 
 -- "Sending, frame wants an ACK: listen with the spare buffer after ACK spacing"; "Sending otherwise: ask"
-unfoldable pub sending_move : Settings → TxTask → Answers → AckSeqNum → Move
-sending_move set q answers (AckSeqNum.Is k) =
+unfoldable pub sending_move : Settings → TxTask → Answers → Option ℕ → Move
+sending_move set q answers (Some k) =
     accepted_of set (Wait.Entering (Transition.AckWait q k))
-    (Action.Rx set.spare_buffer Timestamp.BestEffort (NextTaskIfs.Is Ifs.Aifs) false)
+    (Action.Rx set.spare_buffer Timestamp.BestEffort (Some Ifs.Aifs) false)
     answers
-sending_move set q answers AckSeqNum.None = ask_any set (Asked.Sending q) answers
+sending_move set q answers None = ask_any set (Asked.Sending q) answers
 
 -- "Off-to-Tx: Entered, to sending"; "Off-to-Rx: Entered, to listening"; and so out of receiving and sending
 unfoldable pub arrival_of : Settings → Answers → Next → Move
@@ -73,9 +70,9 @@ ack_turn_entered s q i r =
     guarded_of s left.refusal (ask_any s.set (Asked.SendingAck i) (answers_of left.owed))
 
 -- "stop at latest ACK start"; "11. A measured entry that begins an ACK wait plus 10,000 exceeds 64 bits."
-unfoldable pub ack_wait_started : State → AwaitedAck → LatestAckStart → Move
-ack_wait_started s a (LatestAckStart.At t) = stop_move s.set (Stop.Ack a) (StopListening.At t)
-ack_wait_started s a LatestAckStart.Exceeds = refused_of s 11
+unfoldable pub ack_wait_started : State → AwaitedAck → Option ℕ → Move
+ack_wait_started s a (Some t) = stop_move s.set (Stop.Ack a) (StopListening.At t)
+ack_wait_started s a None = refused_of s 11
 
 -- the data frame was sent
 unfoldable pub ack_wait_entered : State → TxTask → ℕ → ℕ → TaskResult → Move

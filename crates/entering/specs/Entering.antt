@@ -1,12 +1,11 @@
 -- Waits for a transition of the radio: document 01, "Waits".
 -- Assumes nothing.
-use Rattle.std.specs.Prelude.{ℕ, List}
+use Rattle.std.specs.Prelude.{ℕ, List, Option, Some, None}
 use Rattle.tasks.specs.declared.Answers.{Answers}
 use Rattle.tasks.specs.declared.Call.{Call}
 use Rattle.tasks.specs.declared.Cause.{Cause}
 use Rattle.tasks.specs.declared.Left.{Left}
 use Rattle.tasks.specs.declared.Next.{Next}
-use Rattle.tasks.specs.declared.Owed.{Owed}
 use Rattle.tasks.specs.declared.Response.{Response}
 use Rattle.tasks.specs.declared.RxTask.{RxTask}
 use Rattle.tasks.specs.declared.State.{State}
@@ -15,15 +14,16 @@ use Rattle.tasks.specs.declared.Transition.{Transition}
 use Rattle.tasks.specs.declared.TxTask.{TxTask}
 use Rattle.tasks.specs.Answers.{to_tx}
 use Rattle.results.specs.Results.{leave_of}
-use Rattle.moves.specs.declared.Move.{Move}
+use Rattle.moves.specs.Move.{Move}
 use Rattle.moves.specs.Move.{unfit, guarded_of, to_idle, listen_on}
 use Rattle.entered.specs.Entered.{entered_of}
+use Rattle.tasks.specs.declared.Answer.{Answer}
 
 -- ---- Fallback: "After any ask Fallback fits with a Tx only, adds the next request's error and goes idle."
 
-unfoldable pub then_error : TxTask → Cause → Owed → Answers
-then_error q cause Owed.None = Answers.One (to_tx q (Response.Error cause))
-then_error q cause (Owed.One a) = Answers.Two a (to_tx q (Response.Error cause))
+unfoldable pub then_error : TxTask → Cause → Option Answer → Answers
+then_error q cause None = Answers.One (to_tx q (Response.Error cause))
+then_error q cause (Some a) = Answers.Two a (to_tx q (Response.Error cause))
 
 unfoldable pub request_fell_back : State → List ℕ → Left → TaskResult → Cause → Next → Move
 request_fell_back s pool l r cause (Next.Tx q number) =

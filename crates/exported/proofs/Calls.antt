@@ -1,5 +1,6 @@
 -- From what reading, the engine's call and writing ensure to what the call ensures; over plain values.
 -- Assumes nothing.
+use Rattle.std.proofs.Common.{Some, None, ℕ}
 use Prim.Native.Nat.{ℕ}
 use mathlib.Core.Path.{◌≡◌, refl, sym, ◌∙◌}
 use mathlib.Core.Bool.{Bool, true, false}
@@ -9,8 +10,7 @@ use lib.ListN.{length}
 use native.Mathlib.Omega.{arith}
 use borrow.Author.Tests.{eq-eqb, eqb-false, ne_eqb}
 use Rattle.tasks.specs.declared.State.{State}
-use Rattle.engine.specs.declared.Outcome.{Outcome}
-use Rattle.state_bytes.specs.declared.Decoded.{Decoded}
+use Rattle.engine.specs.Step.{Outcome}
 use Rattle.state_bytes.specs.Layout.{state_at}
 use Rattle.reply_bytes.specs.Reply.{written_reply}
 use Rattle.call_codes.specs.declared.ExportedCall.{ExportedCall}
@@ -65,13 +65,13 @@ module _ (st re po : List ℕ) (x : ExportedCall) where
         qualities = λ z. rw (Y ∙ written (sym R ∙ z)) (made_carries x (state_at st) po);
       }
 
-  pub done : (s : State) → read_of st (length re) ≡ Decoded.Valid s → (o : Outcome) (r : ℕ) (st' re' po' : List ℕ) → o ≡ made_outcome s po x → po' ≡ made_pool s po x
+  pub done : (s : State) → read_of st (length re) ≡ Some s → (o : Outcome) (r : ℕ) (st' re' po' : List ℕ) → o ≡ made_outcome s po x → po' ≡ made_pool s po x
       → Finished o st re r st' re' → Called st re po x r st' re' po'
   done s d o r st' re' po' e p F =
       let K : (form_ok st (length re) ≡ true) × (s ≡ state_at st) = rw d at (reads st (length re)) in
       called o K.0 (rw K.1 at e) r st' re' po' (rw K.1 at p) F
 
-  pub not_done : read_of st (length re) ≡ Decoded.Invalid → Called st re po x 1 st re po
+  pub not_done : read_of st (length re) ≡ None → Called st re po x 1 st re po
   unfolding call_result call_state call_reply call_pool exported_refusal
   not_done d =
       let bad : form_ok st (length re) ≡ false = rw d at (reads st (length re)) in

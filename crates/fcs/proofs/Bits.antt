@@ -6,51 +6,13 @@ use mathlib.Core.Bool.{Bool, true, false, xor}
 use mathlib.Core.List.{List, [], ◌∷◌}
 use native.Mathlib.Nat.{le_of_suc-le-suc, not-suc-le-zero}
 use native.Mathlib.Omega.{arith}
-use lib.Arith.{bin_ind}
-use lib.Bits.{bit_xor, differ, xor_step, xor_zero_r, xor_comm, xor_shr, xor_mod}
+use lib.Bits.{bit_xor, differ, xor_step, xor_zero_r, xor_comm, xor_assoc, xor_shr, xor_mod}
 use lib.Dec.{eqb}
 use lib.ListN.{length}
 use Rattle.util.specs.Bytes.{flag_number}
 use Rattle.fcs.specs.Fcs.{minus, bits_of, number_of}
 
--- ---- Exclusive or: in which order it is taken makes no difference
-
-differ_below : (a b : ℕ) → a < 2 → b < 2 → differ a b < 2
-differ_below zero b h k = k
-differ_below (suc zero) zero h k = h
-differ_below (suc zero) (suc zero) h k = omega arith
-differ_below (suc zero) (suc (suc b)) h k = absurd (omega arith)
-differ_below (suc (suc a)) b h k = absurd (omega arith)
-
-lowest_differ : (a b : ℕ) → bit_xor a b % 2 ≡ differ (a % 2) (b % 2)
-lowest_differ a b =
-    let below = differ_below (a % 2) (b % 2) (omega arith) (omega arith) in
-    ap (λ (n : ℕ). n % 2) (xor_step a b) ∙ omega (arith, below)
-
-differ_assoc : (a b c : ℕ) → a < 2 → b < 2 → c < 2 → differ (differ a b) c ≡ differ a (differ b c)
-differ_assoc zero b c f g h = refl
-differ_assoc (suc zero) zero c f g h = refl
-differ_assoc (suc zero) (suc zero) zero f g h = refl
-differ_assoc (suc zero) (suc zero) (suc zero) f g h = refl
-differ_assoc (suc zero) (suc zero) (suc (suc c)) f g h = absurd (omega arith)
-differ_assoc (suc zero) (suc (suc b)) c f g h = absurd (omega arith)
-differ_assoc (suc (suc a)) b c f g h = absurd (omega arith)
-
-pub xor_assoc : (a b c : ℕ) → bit_xor (bit_xor a b) c ≡ bit_xor a (bit_xor b c)
-xor_assoc =
-    bin_ind
-    (λ (n : ℕ). (b c : ℕ) → bit_xor (bit_xor n b) c ≡ bit_xor n (bit_xor b c))
-    (λ b c. refl)
-    (λ n rest b c.
-    xor_step (bit_xor n b) c
-    ∙ ap₂
-    (λ (m d : ℕ). m * 2 + d)
-    (ap (λ (m : ℕ). bit_xor m (c / 2)) (xor_shr n b 1) ∙ rest (b / 2) (c / 2) ∙ ap (bit_xor (n / 2)) (sym (xor_shr b c 1)))
-    (ap (λ (d : ℕ). differ d (c % 2)) (lowest_differ n b)
-    ∙ differ_assoc (n % 2) (b % 2) (c % 2) (omega arith) (omega arith) (omega arith)
-    ∙ ap (differ (n % 2)) (sym (lowest_differ b c)))
-    ∙ sym (xor_step n (bit_xor b c)))
-
+-- exclusive ors of two numbers each, the inner numbers exchanged
 pub xor_exchange : (a b c d : ℕ) → bit_xor (bit_xor a b) (bit_xor c d) ≡ bit_xor (bit_xor a c) (bit_xor b d)
 xor_exchange a b c d =
     xor_assoc a b (bit_xor c d)

@@ -8,7 +8,7 @@ use native.Mathlib.Nat.{zero-add, add-zero, add-suc, suc-add, le_of_suc-le-suc, 
 use native.Mathlib.Omega.{arith}
 use lib.Bits.{bit_xor, xor_comm, xor_lt}
 use lib.Dec.{T, eqb, eqb→eq}
-use lib.ListN.{length, get_or, drop}
+use lib.ListN.{length, get_or}
 use Rattle.util.specs.Bytes.{AllBytes}
 use Rattle.fcs.specs.Fcs.{minus, bits_of, number_of, sent_bits, divide, remainder, fcs_from, fcs_of}
 use Rattle.fcs.specs.Table.{fcs_table, EveryEntry, table_step, by_table, TableAgrees}
@@ -112,12 +112,3 @@ from_append start (x ∷ xs) ys h =
     from_cons start x (xs ++ ys)
     ∙ from_append (fcs_from start (x ∷ [])) xs ys (from_fits start (x ∷ []))
     ∙ ap (λ (n : ℕ). fcs_from n ys) (sym (from_cons start x xs))
-
--- the bytes from a place on: the one there, and those after it
-pub from_place : (start : ℕ) (bytes : List ℕ) (i : ℕ) → i < length bytes
-    → fcs_from start (drop i bytes) ≡ fcs_from (fcs_from start (get_or bytes i 0 ∷ [])) (drop (i + 1) bytes)
-from_place start [] i h = absurd (not-suc-le-zero h)
-from_place start (b ∷ bytes) zero h = from_cons start b bytes
-from_place start (b ∷ bytes) (suc i) h =
-    let next : suc i + 1 ≡ suc (i + 1) = omega arith in
-    rw next (from_place start bytes i (le_of_suc-le-suc h))

@@ -1,14 +1,17 @@
 -- The bit rule on a register of sixteen bits: bits above those of a number are zeros, and a step of the division leaves them so.
 -- Assumes nothing.
-use Prim.Native.Nat.{ℕ, zero, suc, ◌+◌, ◌-◌, ◌/◌, ◌%◌, ◌^◌, ◌≤◌, ◌<◌}
+use Prim.Native.Nat.{ℕ, zero, suc, ◌+◌, ◌/◌, ◌%◌, ◌^◌, ◌≤◌, ◌<◌}
 use mathlib.Core.Path.{◌≡◌, refl, sym, ◌∙◌, ap, ap₂}
 use mathlib.Core.Bool.{Bool, true, false, xor}
 use mathlib.Core.List.{List, [], ◌∷◌, ◌++◌}
 use native.Mathlib.Nat.{zero-add, suc-add, le_of_suc-le-suc, not-suc-le-zero}
 use native.Mathlib.Omega.{arith}
+use borrow.Author.Tests.{eq-eqb}
+use lib.Bits.{bit_xor}
 use lib.Dec.{eqb}
 use lib.ListN.{length, replicate}
 use Rattle.fcs.specs.Fcs.{coefficients_below, minus, divide_once, divide, bits_of, number_of, fcs_from, fcs_of}
+use Rattle.fcs.proofs.Bits.{bits_xor, number_bits}
 use Rattle.fcs.proofs.Division.{zeros, minus_zeros}
 
 bits_zero : (k : ℕ) → bits_of k 0 ≡ replicate k false
@@ -33,22 +36,21 @@ once_before : (x : Bool) (xs after : List Bool) → 16 ≤ length xs → divide_
 once_before true xs after h = minus_before xs after (coefficients_below 16) h
 once_before false xs after h = refl
 
--- one turn of the loop
-pub turn : (left register next : ℕ) → 0 < left → register < 2 ^ 16 → next < 2 ^ 16 → bits_of 16 next ≡ divide_once (bits_of 17 register)
-    → divide left (bits_of (left + 16) register) ≡ divide (left - 1) (bits_of (left - 1 + 16) next)
-turn zero register next h fits fits' step = absurd (not-suc-le-zero h)
-turn (suc k) register next h fits fits' step =
-    let above : suc k + 16 ≡ 17 + k = omega arith in
-    let less : suc k - 1 ≡ k = omega arith in
+-- one turn of the loop, after which k steps are left
+pub turn : (left k register next : ℕ) → left ≡ k + 1 → register < 2 ^ 16 → next < 2 ^ 16 → bits_of 16 next ≡ divide_once (bits_of 17 register)
+    → divide k (bits_of (k + 16) next) ≡ divide left (bits_of (left + 16) register)
+turn left k register next e fits fits' step =
+    let one_more : left ≡ suc k = omega arith in
+    let above : left + 16 ≡ 17 + k = omega arith in
     let below : k + 16 ≡ 16 + k = omega arith in
-    let once : divide_once (bits_of (suc k + 16) register) ≡ bits_of (k + 16) next
+    let once : divide_once (bits_of (left + 16) register) ≡ bits_of (k + 16) next
     = ap (λ (n : ℕ). divide_once (bits_of n register)) above
     ∙ ap divide_once (padded 17 k register (omega arith))
     ∙ once_before (eqb (register % 2) 1) (bits_of 16 (register / 2)) (replicate k false) (omega arith)
     ∙ ap (λ (l : List Bool). l ++ replicate k false) (sym step)
     ∙ sym (padded 16 k next fits')
     ∙ ap (λ (n : ℕ). bits_of n next) (sym below) in
-    ap (divide k) once ∙ sym (ap (λ (n : ℕ). divide n (bits_of (n + 16) next)) less)
+    ap (divide k) (sym once) ∙ ap (λ (n : ℕ). divide n (bits_of (left + 16) register)) (sym one_more)
 
 -- the division of one byte, as a register begins it
 pub entry_start : (byte : ℕ) → byte < 2 ^ 8 → number_of (divide 8 (bits_of (8 + 16) byte)) ≡ fcs_of (byte ∷ [])
@@ -57,3 +59,13 @@ entry_start byte h =
     ap
     (λ (l : List Bool). number_of (divide 8 l))
     (padded 8 16 byte h ∙ sym (minus_zeros 16 (bits_of 8 byte ++ zeros)))
+
+-- no step is left
+pub ended : (left register : ℕ) → left ≡ 0 → register < 2 ^ 16 → number_of (divide left (bits_of (left + 16) register)) ≡ register
+ended left register e fits = ap (λ (n : ℕ). number_of (divide n (bits_of (n + 16) register))) e ∙ number_bits 16 register fits
+
+-- one step, where the lowest bit is 1
+pub odd_step : (register : ℕ) → register % 2 ≡ 1 → bits_of 16 (bit_xor (register / 2) 0x8408) ≡ divide_once (bits_of 17 register)
+odd_step register e =
+    bits_xor 16 (register / 2) 0x8408
+    ∙ ap (λ b. divide_once (b ∷ bits_of 16 (register / 2))) (sym (eq-eqb (register % 2) 1 e))

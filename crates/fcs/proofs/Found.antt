@@ -5,21 +5,21 @@ use mathlib.Core.Path.{◌≡◌, refl, sym, ◌∙◌, ap, ap₂, subst⁻¹}
 use mathlib.Core.Bool.{Bool, true, false, cond}
 use mathlib.Core.Logic.{⊎_elim}
 use mathlib.Core.List.{List, [], ◌∷◌, ◌++◌}
+use Rattle.std.specs.Prelude.{Ok, Err}
+use Rattle.refusals.specs.declared.Refusal.{Refusal}
 use native.Mathlib.Nat.{le_of_suc-le-suc, not-suc-le-zero}
 use native.Mathlib.Omega.{arith}
-use lib.Bits.{bit_xor, xor_comm, xor_lt, xor_shr, xor_mod, xor_self, xor_zero_r}
+use lib.Bits.{bit_xor, xor_comm, xor_assoc, xor_lt, xor_shr, xor_mod, xor_self, xor_zero_r}
 use lib.Dec.{eqb, eqb→eq}
 use lib.ListN.{length, get_or, set, take-append-drop, length-set}
 use Rattle.util.specs.Bytes.{AllBytes, bytes_of}
 use Rattle.util.proofs.Numbers.{take_bytes}
-use Rattle.fcs.specs.declared.FcsCheck.{FcsCheck}
 use Rattle.fcs.specs.Fcs.{fcs_of, fcs_bytes}
 use Rattle.fcs.specs.Table.{fcs_table, table_step, by_table}
 use Rattle.fcs.specs.Check.{last_two, rest_of, ends_in_own_fcs, check_of, check_number}
 use Rattle.fcs.specs.Laws.{OneWrongByteIsFound}
 use Rattle.fcs.proofs.ByTable.{at, from_fits, table_byte, table_agrees}
-use Rattle.fcs.proofs.Bits.{xor_assoc}
-use Rattle.fcs.proofs.Check.{too_short, too_long, taken, below_or_not, yes_exactly}
+use Rattle.fcs.proofs.Check.{decided, refused, taken, yes_exactly}
 
 -- the place of the first entry, counted from k on, that has this high byte
 place_of : ℕ → ℕ → List ℕ → ℕ
@@ -108,15 +108,9 @@ own_bytes v h =
     ∙ ap₂ (λ (n k : ℕ). bit_xor n (get_or fcs_table k 0)) none (xor_self (v / 256 % 256))
 
 -- a check that says yes takes the length
-yes_taken : (frame : List ℕ) → check_of frame ≡ FcsCheck.Yes → (3 ≤ length frame) × (length frame ≤ 127)
-unfolding check_number
+yes_taken : (frame : List ℕ) → check_of frame ≡ Ok true → (3 ≤ length frame) × (length frame ≤ 127)
 yes_taken frame e =
-    let not_refused : check_of frame ≡ FcsCheck.Refused → ⊥
-    = λ r. (let same = ap check_number (sym r ∙ e) in absurd (omega arith)) in
-    ⊎_elim
-    (λ h. absurd (not_refused (too_short frame h)))
-    (λ h. ⊎_elim (λ k. absurd (not_refused (too_long frame k))) (λ k. (h, k)) (below_or_not 127 (length frame)))
-    (below_or_not (length frame) 3)
+    ⊎_elim (λ h. let clash : Err Refusal.FrameLength ≡ Ok true = sym (refused frame h) ∙ e in absurd cc) (λ h. h) (decided frame)
 
 set_bytes : (bytes : List ℕ) (place v : ℕ) → AllBytes bytes → v < 256 → AllBytes (set bytes place v)
 set_bytes [] place v A h = tt
@@ -124,8 +118,8 @@ set_bytes (b ∷ bytes) zero v A h = (h, A.1)
 set_bytes (b ∷ bytes) (suc place) v A h = (A.0, set_bytes bytes place v A.1 h)
 
 -- a frame of which the check says yes leaves nothing
-nothing_left : (frame : List ℕ) → AllBytes frame → check_of frame ≡ FcsCheck.Yes → by_table 0 frame ≡ 0
-unfolding fcs_bytes fcs_of check_number
+nothing_left : (frame : List ℕ) → AllBytes frame → check_of frame ≡ Ok true → by_table 0 frame ≡ 0
+unfolding fcs_bytes fcs_of
 nothing_left frame A e =
     let length_taken = yes_taken frame e in
     let rest = rest_of frame in
@@ -136,19 +130,19 @@ nothing_left frame A e =
     ∙ ap₂ by_table sum two
     ∙ own_bytes (fcs_of rest) (from_fits 0 rest)
 
-not_yes : (b : Bool) (answer : FcsCheck) → answer ≡ cond b FcsCheck.Yes FcsCheck.No → (answer ≡ FcsCheck.Yes → ⊥) → answer ≡ FcsCheck.No
-not_yes true answer e h = absurd (h e)
-not_yes false answer e h = e
+not_yes : (own : Bool) → (own ≡ true → ⊥) → own ≡ false
+not_yes true h = absurd (h refl)
+not_yes false h = refl
 
 pub one_wrong_byte_is_found : OneWrongByteIsFound
 one_wrong_byte_is_found frame A e place wrong h k differs =
     let other = set frame place wrong in
     let bounds = yes_taken frame e in
-    let long = length-set frame place wrong in
-    not_yes
-    (ends_in_own_fcs other)
-    (check_of other)
-    (taken other (omega (arith, bounds.0)) (omega (arith, bounds.1)))
+    let same = length-set frame place wrong in
+    let said = taken other (omega arith) (omega arith) in
+    said
+    ∙ ap Ok
+    (not_yes (ends_in_own_fcs other)
     (λ yes. differs
     (same_byte 0 frame place wrong (omega arith) A h k
-    (nothing_left other (set_bytes frame place wrong A k) yes ∙ sym (nothing_left frame A e))))
+    (nothing_left other (set_bytes frame place wrong A k) (said ∙ ap Ok yes) ∙ sym (nothing_left frame A e)))))

@@ -1,69 +1,59 @@
--- Two bytes at a time: what the loops over a slice keep, and a step by the table.
+-- Two bytes at a time: an odd first byte and the pairs after it, and a step by the table.
 -- Assumes nothing.
-use Prim.Native.Nat.{ℕ, ◌+◌, ◌-◌, ◌/◌, ◌%◌, ◌^◌, ◌≤◌, ◌<◌}
+use Prim.Native.Nat.{ℕ, zero, suc, ◌*◌, ◌/◌, ◌%◌, ◌^◌, ◌≤◌, ◌<◌}
 use mathlib.Core.Path.{◌≡◌, refl, sym, ◌∙◌, ap, ap₂, subst⁻¹}
 use mathlib.Core.Bool.{xor}
 use mathlib.Core.List.{List, [], ◌∷◌}
 use native.Mathlib.Omega.{arith}
-use lib.Bits.{bit_xor, xor_comm, xor_shr, xor_mod}
-use lib.ListN.{length, get_or, take, drop, drop_of_length-le, take-append-drop}
+use lib.Bits.{bit_xor, xor_comm, xor_assoc, xor_lt, xor_shr, xor_mod}
+use lib.ListN.{length, get_or, take, drop, length-drop, take-append-drop}
+use Rattle.std.specs.Prelude.{Some, None}
+use Rattle.std.specs.Int.{w8}
+use Rattle.std.specs.List.{fold, slice_get}
+use Rattle.std.proofs.Common.{Fits}
+use Rattle.std.proofs.lemmas.List.{take_all}
+use Rattle.std.specs.Simd.{first_chunks}
 use Rattle.fcs.specs.Fcs.{fcs_from, fcs_of}
 use Rattle.fcs.specs.Table.{fcs_table, table_step}
-use Rattle.fcs.proofs.Bits.{xor_assoc}
-use Rattle.fcs.proofs.ByTable.{from_cons, from_append, from_fits, from_none, from_place, table_byte}
+use Rattle.fcs.proofs.ByTable.{every_entry, from_cons, from_append, from_fits, from_none, table_byte}
 
--- The invariant: the bytes that are left are even in number, and their checksum, begun with the register, is that of all bytes.
-abbrev pub Going : List ℕ → ℕ → ℕ → Type 0
-Going bytes register i =
-    ((i ≤ length bytes) × ((length bytes - i) % 2 ≡ 0)) × ((register < 2 ^ 16) × (fcs_from register (drop i bytes) ≡ fcs_of bytes))
+-- the checksum of one byte, or of none
+pub one_byte : (odd : List ℕ) (byte : ℕ) → length odd < 2 → ((i : ℕ) → Fits w8 (get_or odd i 0)) → Some byte ≡ slice_get odd 0
+    → get_or fcs_table byte 0 ≡ fcs_of odd
+one_byte [] byte h bytes e = absurd cc
+one_byte (b ∷ c ∷ odd) byte h bytes e = absurd (omega arith)
+one_byte (b ∷ []) byte h bytes e =
+    let same : byte ≡ b = cc in
+    ap (λ (n : ℕ). get_or fcs_table n 0) same ∙ every_entry.1 b (bytes 0).fits
 
--- it begins after what stands before the first pair
-pub begun : (bytes : List ℕ) (register : ℕ) → register ≡ fcs_of (take (length bytes % 2) bytes) → Going bytes register (length bytes % 2)
-unfolding fcs_of
-begun bytes register e =
-    let k = length bytes % 2 in (
-      (omega arith, omega arith),
-      (
-        subst⁻¹ (λ (n : ℕ). n < 2 ^ 16) e (from_fits 0 (take k bytes)),
-        ap (λ (n : ℕ). fcs_from n (drop k bytes)) e
-            ∙ sym (from_append 0 (take k bytes) (drop k bytes) (omega arith))
-            ∙ ap (fcs_from 0) (take-append-drop k bytes),
-      ),
-    )
-
--- which is the first byte, or nothing
-pub first_byte : (bytes : List ℕ) → (length bytes % 2 ≡ 0 → ⊥) → get_or bytes 0 0 ∷ [] ≡ take (length bytes % 2) bytes
-first_byte [] h = absurd (h refl)
-first_byte (b ∷ bytes) h =
-    let odd : length (b ∷ bytes) % 2 ≡ 1 = omega arith in
-    sym (ap (λ (k : ℕ). take k (b ∷ bytes)) odd)
-
-pub no_byte : (bytes : List ℕ) → length bytes % 2 ≡ 0 → 0 ≡ fcs_of (take (length bytes % 2) bytes)
+pub no_byte : (odd : List ℕ) → None ≡ slice_get odd 0 → 0 ≡ fcs_of odd
 unfolding fcs_of fcs_from xor
-no_byte bytes h = sym (ap (λ (k : ℕ). fcs_of (take k bytes)) h)
+no_byte [] e = refl
+no_byte (b ∷ odd) e = absurd cc
 
--- it goes on with the register of two bytes more
-pub going_on : (bytes : List ℕ) (register next i : ℕ) → Going bytes register i → i < length bytes
-    → next ≡ fcs_from register (get_or bytes i 0 ∷ get_or bytes (i + 1) 0 ∷ []) → Going bytes next (i + 2)
-going_on bytes register next i g h e =
-    let first = get_or bytes i 0 in
-    let second = get_or bytes (i + 1) 0 in
-    let left = g.0 in
-    let two : i + 1 + 1 ≡ i + 2 = omega arith in (
-      (omega arith, omega arith),
-      (
-        subst⁻¹ (λ (n : ℕ). n < 2 ^ 16) e (from_fits register (first ∷ second ∷ [])),
-        ap₂ (λ (n k : ℕ). fcs_from n (drop k bytes)) (e ∙ from_cons register first (second ∷ [])) (sym two)
-            ∙ sym (from_place (fcs_from register (first ∷ [])) bytes (i + 1) (omega arith))
-            ∙ sym (from_place register bytes i h)
-            ∙ g.1.1,
-      ),
-    )
+-- steps of two bytes each, over bytes that are even in number
+over_pairs : (k start : ℕ) (bytes : List ℕ) → start < 2 ^ 16 → length bytes ≡ k * 2 → fold fcs_from start (first_chunks 2 k bytes) ≡ fcs_from start bytes
+over_pairs zero start [] f h = sym (from_none start f)
+over_pairs zero start (b ∷ bytes) f h = absurd (omega arith)
+over_pairs (suc k) start [] f h = absurd (omega arith)
+over_pairs (suc k) start (b ∷ []) f h = absurd (omega arith)
+over_pairs (suc k) start (b ∷ c ∷ bytes) f h =
+    over_pairs k (fcs_from start (b ∷ c ∷ [])) bytes (from_fits start (b ∷ c ∷ [])) (omega arith)
+    ∙ sym (from_append start (b ∷ c ∷ []) bytes f)
 
--- and where no bytes are left the register is the checksum
-pub gone : (bytes : List ℕ) (register i : ℕ) → Going bytes register i → length bytes ≤ i → register ≡ fcs_of bytes
-gone bytes register i g h =
-    sym (from_none register g.1.0) ∙ ap (fcs_from register) (sym (drop_of_length-le bytes h)) ∙ g.1.1
+-- an odd first byte, and then the others up to the last
+pub odd_and_pairs : (bytes : List ℕ) (pairs : List (List ℕ)) (register i : ℕ) → register ≡ fcs_of (take (length bytes % 2) bytes)
+    → pairs ≡ first_chunks 2 (length bytes / 2) (drop (length bytes % 2) bytes) → length pairs ≤ i
+    → fold fcs_from register (take i pairs) ≡ fcs_of bytes
+unfolding fcs_of
+odd_and_pairs bytes pairs register i r p h =
+    let k = length bytes % 2 in
+    let fits : register < 2 ^ 16 = subst⁻¹ (λ (n : ℕ). n < 2 ^ 16) r (from_fits 0 (take k bytes)) in
+    ap (fold fcs_from register) (take_all i pairs h ∙ p)
+    ∙ over_pairs (length bytes / 2) register (drop k bytes) fits (length-drop k bytes ∙ omega arith)
+    ∙ ap (λ (n : ℕ). fcs_from n (drop k bytes)) r
+    ∙ sym (from_append 0 (take k bytes) (drop k bytes) (omega arith))
+    ∙ ap (fcs_from 0) (take-append-drop k bytes)
 
 -- a step by the table: the register's low byte goes with the first of two bytes, its high byte with the second
 pub two_bytes : (start b c : ℕ) → start < 2 ^ 16 → b < 256 → c < 256
@@ -84,3 +74,19 @@ two_bytes start b c f g h entry e =
     ∙ ap (λ (n : ℕ). table_step n c) first
     ∙ table_byte (fcs_from start (b ∷ [])) c (from_fits start (b ∷ [])) h
     ∙ sym (from_cons start b (c ∷ []))
+
+-- the same of two bytes as a pair, with the two bytes of the register and of the entry
+pub pair_by_table : (start : ℕ) (pair : List ℕ) → start < 2 ^ 16 → length pair ≡ 2 → ((i : ℕ) → get_or pair i 0 < 256)
+    → (entry : ℕ) → entry ≡ get_or fcs_table (bit_xor (start % 256) (get_or pair 0 0)) 0
+    → bit_xor (entry / 256 % 256) (get_or fcs_table (bit_xor (bit_xor (entry % 256) (start / 256 % 256)) (get_or pair 1 0)) 0) ≡ fcs_from start pair
+unfolding fcs_of
+pair_by_table start [] f h bytes entry e = absurd (omega arith)
+pair_by_table start (b ∷ []) f h bytes entry e = absurd (omega arith)
+pair_by_table start (b ∷ c ∷ d ∷ pair) f h bytes entry e = absurd (omega arith)
+pair_by_table start (b ∷ c ∷ []) f h bytes entry e =
+    let place = bit_xor (start % 256) b in
+    let is_entry : entry ≡ fcs_from 0 (place ∷ []) = e ∙ every_entry.1 place (xor_lt 8 (start % 256) b (omega arith) (bytes 0)) in
+    let fits : entry < 2 ^ 16 = rw is_entry (from_fits 0 (place ∷ [])) in
+    let high : entry / 256 % 256 ≡ entry / 256 = omega arith in
+    let whole : start / 256 % 256 ≡ start / 256 = omega arith in
+    rw (high, whole, xor_assoc (entry % 256) (start / 256) c) (two_bytes start b c f (bytes 0) (bytes 1) entry e)

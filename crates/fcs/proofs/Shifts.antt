@@ -3,18 +3,19 @@
 -- Assumes nothing.
 use Prim.Native.Nat.{ℕ, ◌+◌, ◌*◌, ◌/◌, ◌%◌, ◌^◌, ◌<◌}
 use mathlib.Core.Path.{◌≡◌, refl, sym, ◌∙◌, ap, ap₂}
-use mathlib.Core.Bool.{Bool, ◌&&◌, xor}
-use mathlib.Core.List.{[], ◌∷◌}
+use mathlib.Core.Bool.{Bool, ◌&&◌}
+use mathlib.Core.List.{List, [], ◌∷◌}
 use native.Mathlib.Nat.{add-zero}
 use native.Mathlib.Omega.{arith}
-use lib.Bits.{bit_xor, xor_comm, xor_lt, xor_shr, xor_mod, xor_block, xor_shifted}
+use lib.Bits.{bit_xor, xor_comm, xor_assoc, xor_lt, xor_shr, xor_mod, xor_block, xor_shifted}
 use lib.Dec.{T, eqb, eqb→eq}
-use lib.ListN.{get_or}
+use lib.ListN.{length, get_or}
 use lib.Pow.{pow_pos}
-use Rattle.fcs.specs.Fcs.{fcs_from, fcs_of}
+use Rattle.std.specs.Int.{w16, from_le_bytes}
+use Rattle.fcs.specs.Fcs.{fcs_from}
 use Rattle.fcs.specs.Table.{fcs_table}
-use Rattle.fcs.proofs.Bits.{xor_assoc, xor_exchange}
-use Rattle.fcs.proofs.ByTable.{at, both_left, both_right, from_cons}
+use Rattle.fcs.proofs.Bits.{xor_exchange}
+use Rattle.fcs.proofs.ByTable.{at, both_left, both_right}
 use Rattle.fcs.proofs.Pairs.{two_bytes}
 
 -- ---- What goes through an exclusive or
@@ -128,29 +129,17 @@ of_two start b c word f g h low high =
     ∙ as_table (bit_xor (start % 256) b) (bit_xor (start / 256) c) first second
     ∙ two_bytes start b c f g h (entry_at (bit_xor (start % 256) b)) refl
 
--- of a word they make the checksum of its two bytes
-pub of_word : (word : ℕ) → word < 2 ^ 16 → shifts word ≡ fcs_of (word % 256 ∷ word / 256 ∷ [])
-unfolding fcs_of
-of_word word h = of_two 0 (word % 256) (word / 256) word (omega arith) (omega arith) (omega arith) refl refl
-
--- and two bytes that come after others go into the register
-pub word_step : (start b c pair : ℕ) → start < 2 ^ 16 → b < 256 → c < 256 → pair ≡ b + 256 * c
-    → fcs_of (bit_xor start pair % 256 ∷ bit_xor start pair / 256 ∷ []) ≡ fcs_from start (b ∷ c ∷ [])
-word_step start b c pair f g h e =
-    let low : pair % 256 ≡ b = omega arith in
-    let high : pair / 256 ≡ c = omega arith in
-    sym (of_word (bit_xor start pair) (xor_lt 16 start pair f (omega arith)))
-    ∙ of_two start b c (bit_xor start pair) f g h
-    (xor_mod start pair 8 ∙ ap (bit_xor (start % 256)) low)
-    (xor_shr start pair 8 ∙ ap (bit_xor (start / 256)) high)
-
--- a zero before a byte changes nothing
-pub zero_before : (b pair : ℕ) → b < 256 → pair ≡ 0 + 256 * b → fcs_of (pair % 256 ∷ pair / 256 ∷ []) ≡ fcs_of (b ∷ [])
-unfolding fcs_of fcs_from xor
-zero_before b pair h e =
-    let none : fcs_from 0 (0 ∷ []) ≡ 0 = refl in
-    let low : pair % 256 ≡ 0 = omega arith in
-    let high : pair / 256 ≡ b = omega arith in
-    ap₂ (λ (n k : ℕ). fcs_of (n ∷ k ∷ [])) low high
-    ∙ from_cons 0 0 (b ∷ [])
-    ∙ ap (λ (n : ℕ). fcs_from n (b ∷ [])) none
+-- two bytes that come after others go into the register
+pub word_step : (start : ℕ) (pair : List ℕ) → start < 2 ^ 16 → length pair ≡ 2 → ((i : ℕ) → get_or pair i 0 < 256)
+    → (word : ℕ) → word ≡ from_le_bytes w16 pair → shifts (bit_xor start word) ≡ fcs_from start pair
+word_step start [] f h bytes word e = absurd (omega arith)
+word_step start (b ∷ []) f h bytes word e = absurd (omega arith)
+word_step start (b ∷ c ∷ d ∷ pair) f h bytes word e = absurd (omega arith)
+word_step start (b ∷ c ∷ []) f h bytes word e =
+    let first : b < 256 = bytes 0 in
+    let second : c < 256 = bytes 1 in
+    let low : word % 256 ≡ b = omega arith in
+    let high : word / 256 ≡ c = omega arith in
+    of_two start b c (bit_xor start word) f first second
+    (xor_mod start word 8 ∙ ap (bit_xor (start % 256)) low)
+    (xor_shr start word 8 ∙ ap (bit_xor (start / 256)) high)

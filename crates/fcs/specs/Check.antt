@@ -1,7 +1,8 @@
 -- The check of a frame with its checksum.
 -- Assumes nothing.
-use Rattle.std.specs.Prelude.{ℕ, ◌-◌, ◌≡◌, Bool, cond, ◌&&◌, ◌||◌, List, eqb, ltb, length, get_or, take, drop}
-use Rattle.fcs.specs.declared.FcsCheck.{FcsCheck}
+use Rattle.std.specs.Prelude.{ℕ, ◌-◌, ◌≡◌, Bool, true, false, cond, ◌&&◌, ◌||◌, Result, Ok, Err, List, eqb, ltb, length, get_or, take, drop}
+use Rattle.refusals.specs.declared.Refusal.{Refusal}
+use Rattle.refusals.specs.Refusals.{refusal_number}
 use Rattle.fcs.specs.Fcs.{fcs_bytes}
 
 -- "under 3 or over 127 bytes"
@@ -25,17 +26,17 @@ ends_in_own_fcs frame = same_two (last_two frame) (fcs_bytes (rest_of frame))
 
 -- "A check says yes exactly if the last two bytes are those of the rest. Refused: 14 by the check for under 3 or over 127 bytes,
 -- its only test"
-unfoldable pub check_of : List ℕ → FcsCheck
-check_of frame = cond (unfit_length frame) FcsCheck.Refused (cond (ends_in_own_fcs frame) FcsCheck.Yes FcsCheck.No)
+unfoldable pub check_of : List ℕ → Result Bool Refusal
+check_of frame = cond (unfit_length frame) (Err Refusal.FrameLength) (Ok (ends_in_own_fcs frame))
 
--- The number of each case: document 02's 14 for a refusal, and in the exported form (docs/LAYOUTS.md) 0 for yes, which says there
--- as everywhere that all is well, and 255 for no: no refusal has the number 255.
-unfoldable pub check_number : FcsCheck → ℕ
-check_number FcsCheck.Yes = 0
-check_number FcsCheck.No = 255
-check_number FcsCheck.Refused = 14
+-- The number of each case: a refusal's own, which is document 02's 14, and in the exported form (docs/LAYOUTS.md) 0 for yes, which
+-- says there as everywhere that all is well, and 255 for no: no refusal has the number 255.
+abbrev pub check_number : Result Bool Refusal → ℕ
+check_number (Ok true) = 0
+check_number (Ok false) = 255
+check_number (Err refusal) = refusal_number refusal
 
 -- what check_fcs answers: the case, and the number for it
-pub record FcsChecked (frame : List ℕ) (r : FcsCheck) : Type 0 where
+pub record FcsChecked (frame : List ℕ) (r : Result Bool Refusal) : Type 0 where
   pub case : r ≡ check_of frame
   pub number : check_number r ≡ cond (unfit_length frame) 14 (cond (ends_in_own_fcs frame) 0 255)

@@ -1,8 +1,7 @@
 -- What the checksum and its check are for, as laws of the definitions; proofs/Check.antt and proofs/Found.antt have their proofs.
 -- Assumes nothing.
-use Rattle.std.specs.Prelude.{ℕ, ◌≤◌, ◌<◌, ◌≡◌, ◌⊎◌, ◌↔◌, List, [], ◌∷◌, ◌++◌, length, get_or, set}
+use Rattle.std.specs.Prelude.{ℕ, ◌≤◌, ◌<◌, ◌≡◌, ◌⊎◌, ◌↔◌, true, false, Ok, List, [], ◌∷◌, ◌++◌, length, get_or, set}
 use Rattle.util.specs.Bytes.{AllBytes}
-use Rattle.fcs.specs.declared.FcsCheck.{FcsCheck}
 use Rattle.fcs.specs.Fcs.{fcs_bytes}
 use Rattle.fcs.specs.Check.{last_two, rest_of, check_of, check_number}
 
@@ -23,12 +22,12 @@ YesExactly =
 -- Appending the two bytes of a frame's own checksum makes the check say yes, for the lengths that it takes.
 abbrev pub OwnChecksumIsRight : Type 0
 OwnChecksumIsRight =
-    (bytes : List ℕ) → 1 ≤ length bytes → length bytes ≤ 125 → check_of (bytes ++ fcs_bytes bytes) ≡ FcsCheck.Yes
+    (bytes : List ℕ) → 1 ≤ length bytes → length bytes ≤ 125 → check_of (bytes ++ fcs_bytes bytes) ≡ Ok true
 
 -- Any one wrong bit is found, and so is any one byte with several. Where the check says yes, and so of a frame of 3 to 127 bytes,
 -- it says no with any other byte in the place of any one, be it of the checksum or of the rest.
 abbrev pub OneWrongByteIsFound : Type 0
 OneWrongByteIsFound =
-    (frame : List ℕ) → AllBytes frame → check_of frame ≡ FcsCheck.Yes
+    (frame : List ℕ) → AllBytes frame → check_of frame ≡ Ok true
     → (place wrong : ℕ) → place < length frame → wrong < 256 → (wrong ≡ get_or frame place 0 → ⊥)
-    → check_of (set frame place wrong) ≡ FcsCheck.No
+    → check_of (set frame place wrong) ≡ Ok false

@@ -4,115 +4,83 @@
 
 mod table;
 
-ghost use Rattle.std.specs.Prelude.{◌≡◌, cond, [], ◌∷◌, ◌+◌, ◌*◌, ◌/◌, ◌%◌, length, take};
-ghost use Rattle.std.specs.Int.Bits.{bit_xor};
-ghost use Rattle.fcs.specs.declared.FcsCheck.{FcsCheck};
-ghost use Rattle.fcs.specs.Fcs.{bits_of, divide_once, fcs_of};
+ghost use Rattle.std.specs.Prelude.{◌≡◌, ◌<◌, [], ◌∷◌, length};
+ghost use Rattle.fcs.specs.Fcs.{bits_of, divide_once, fcs_from, fcs_of};
 ghost use Rattle.fcs.specs.Check.{check_number, FcsChecked};
 
-// What the check says of a frame.
-#[derive(Clone, Copy)]
-pub enum FcsCheck {
-    Yes,
-    No,
-    Refused,
-}
+use refusals::Refusal;
+use table::fcs_table;
 
-// The place in the table of a byte: the byte, exclusive or the low byte of the register.
-fn place(register: u16, byte: u8) -> u8
-    ensures { result ≡ bit_xor (register % 256) byte }
-{
-    (register % 256) as u8 ^ byte
-}
+// From so many bytes on they go by the table, as request E5 asks; fewer go by shifts, in less time (docs/BENCHMARKS.md).
+const BY_TABLE_FROM: usize = 96;
 
-// So many bytes repay the table: a constant is put on the stack where it is used, 512 bytes once a call. Fewer go without it
-// (docs/BENCHMARKS.md).
-const REPAID_FROM: usize = 96;
-
-// The checksum of any bytes, also of none.
+// The checksum of any bytes, also of none: of an odd first byte, and then of the others two by two. Each way is a `for`: with `fold`
+// the check of 5 bytes takes 6.1 ns, not 4.9.
+#[tactic(auto, using(crate::proofs::Pairs::odd_and_pairs))]
 pub fn fcs(bytes: &[u8]) -> u16
     ensures { result ≡ fcs_of bytes.now }
 {
-    if bytes.len() < REPAID_FROM {
-        fcs_by_shifts(bytes)
+    let (odd, pairs) = bytes.as_rchunks();
+    let mut register = before_pairs(odd);
+    if bytes.len() < BY_TABLE_FROM {
+        for pair in pairs {
+            register = two_by_shifts(register, *pair);
+        }
     } else {
-        fcs_by_table(bytes)
-    }
-}
-
-// Two by two by the table: the first of two bytes goes with the register's low byte, the second with its high byte and the entry of
-// the first.
-fn fcs_by_table(bytes: &[u8]) -> u16
-    ensures { result ≡ fcs_of bytes.now }
-{
-    let table = table::fcs_table();
-    let mut register = before_pairs(bytes);
-    let mut i = bytes.len() % 2;
-    while i < bytes.len() {
-        let entry = table[place(register, bytes[i]) as usize];
-        let high = (register / 256) as u8;
-        register = (entry / 256) ^ table[place(entry, high ^ bytes[i + 1]) as usize];
-        i += 2;
+        for pair in pairs {
+            register = two_by_table(register, *pair);
+        }
     }
     register
 }
 
-// Two by two without the table.
-fn fcs_by_shifts(bytes: &[u8]) -> u16
-    ensures { result ≡ fcs_of bytes.now }
+// The checksum of one byte or of none.
+fn before_pairs(odd: &[u8]) -> u16
+    requires { length odd.now < 2 }
+    ensures { result ≡ fcs_of odd.now }
 {
-    let mut register = before_pairs(bytes);
-    let mut i = bytes.len() % 2;
-    while i < bytes.len() {
-        register = two_by_shifts(register ^ word(bytes[i], bytes[i + 1]));
-        i += 2;
+    match odd.first() {
+        Some(byte) => fcs_table()[usize::from(*byte)],
+        None => 0,
     }
-    register
 }
 
-// The checksum of what stands before the first pair: the first byte where they are odd in number, else nothing. A zero before that
-// byte changes nothing.
-fn before_pairs(bytes: &[u8]) -> u16
-    ensures { result ≡ fcs_of (take (length bytes.now % 2) bytes.now) }
+// Two bytes more by the table: the first goes with the register's low byte, the second with its high byte and the entry of the first.
+fn two_by_table(register: u16, pair: [u8; 2]) -> u16
+    ensures { result ≡ fcs_from register pair }
 {
-    if bytes.len() % 2 == 0 {
-        return 0;
-    }
-    two_by_shifts(word(0, bytes[0]))
+    let [first, second] = pair;
+    let [low, high] = register.to_le_bytes();
+    let [entry_low, entry_high] = fcs_table()[usize::from(low ^ first)].to_le_bytes();
+    u16::from(entry_high) ^ fcs_table()[usize::from(entry_low ^ high ^ second)]
 }
 
-// The checksum of two bytes, sixteen steps of the division at once. A bit of the quotient is the word's, changed by the quotient's
-// bits 4 and 11 places before it, since the terms 12 and 5 are so far below the term 16; written out, by the word's bits 4, 8, 12 and
-// 11 places before it. What is left is what the quotient has changed beyond the word by the terms 0, 5 and 12.
-fn two_by_shifts(word: u16) -> u16
-    ensures { result ≡ fcs_of (word % 256 ∷ word / 256 ∷ []) }
+// Two bytes more without the table, sixteen steps of the division at once. A bit of the quotient is the word's, changed by the
+// quotient's bits 4 and 11 places before it, since the terms 12 and 5 are so far below the term 16; written out, by the word's bits 4,
+// 8, 12 and 11 places before it. What is left is what the quotient has changed beyond the word by the terms 0, 5 and 12.
+fn two_by_shifts(register: u16, pair: [u8; 2]) -> u16
+    ensures { result ≡ fcs_from register pair }
 {
+    let word = register ^ u16::from_le_bytes(pair);
     let four = word ^ (word << 4);
     let quotient = four ^ (four << 8) ^ (word << 11);
     quotient ^ (quotient >> 5) ^ (quotient >> 12)
 }
 
-// Two bytes as one number, the low byte first.
-fn word(low: u8, high: u8) -> u16
-    ensures { result ≡ low + 256 * high }
-{
-    low as u16 + 256 * (high as u16)
-}
-
 // The table's entry for a byte, by the bit rule: the table is not looked at.
+#[tactic(auto, using(crate::proofs::Entry::turn, crate::proofs::Entry::ended))]
 pub fn entry_by_bits(byte: u8) -> u16
     ensures { result ≡ fcs_of (byte ∷ []) }
 {
-    let mut register = byte as u16;
-    let mut left: u8 = 8;
-    while left > 0 {
+    let mut register = u16::from(byte);
+    for _ in 0..u8::BITS {
         register = divided_once(register);
-        left -= 1;
     }
     register
 }
 
 // One step of the division, the bits lowest first: 8408 is the polynomial below its highest power.
+#[tactic(auto, using(crate::proofs::Entry::odd_step, std::proofs::lemmas::Bool::Decides::nat_tests))]
 fn divided_once(register: u16) -> u16
     ensures { bits_of 16 result ≡ divide_once (bits_of 17 register) }
 {
@@ -125,40 +93,25 @@ fn divided_once(register: u16) -> u16
 }
 
 // Whether the last two bytes of a frame are the checksum of the rest.
-pub fn check_fcs(frame: &[u8]) -> FcsCheck
+#[tactic(auto, using(crate::proofs::Check::answered_refused))]
+pub fn check_fcs(frame: &[u8]) -> Result<bool, Refusal>
     ensures { FcsChecked frame.now result }
 {
-    let length = frame.len();
-    if length < 3 {
-        return FcsCheck::Refused;
+    match frame.split_last_chunk() {
+        Some((rest, last)) if 3 <= frame.len() && frame.len() <= 127 => {
+            Ok(fcs(rest) == u16::from_le_bytes(*last))
+        }
+        _ => Err(Refusal::FrameLength),
     }
-    if 127 < length {
-        return FcsCheck::Refused;
-    }
-    let rest = length - 2;
-    // Chosen here and not by `fcs`, so that the compiler puts the short way into this function.
-    let right = if rest < REPAID_FROM {
-        fcs_by_shifts(util::part(frame, 0, rest))
-    } else {
-        fcs_by_table(util::part(frame, 0, rest))
-    };
-    own_or_not(word(frame[rest], frame[rest + 1]) == right)
-}
-
-// What the check says of a frame that it does not refuse, by whether the checksum is its own.
-fn own_or_not(own: bool) -> FcsCheck
-    ensures { result ≡ cond own FcsCheck.Yes FcsCheck.No }
-{
-    if own { FcsCheck::Yes } else { FcsCheck::No }
 }
 
 // The number of an answer in the exported form.
-pub fn check_number(answer: FcsCheck) -> u8
+pub fn check_number(answer: Result<bool, Refusal>) -> u8
     ensures { result ≡ check_number answer }
 {
     match answer {
-        FcsCheck::Yes => 0,
-        FcsCheck::No => 255,
-        FcsCheck::Refused => 14,
+        Ok(true) => 0,
+        Ok(false) => 255,
+        Err(refusal) => refusal.into(),
     }
 }

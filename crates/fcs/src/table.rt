@@ -25,8 +25,8 @@ const FCS_TABLE: [u16; 256] = [
 ];
 
 // The table, of which `EveryEntry` speaks.
-pub fn fcs_table() -> [u16; 256]
-    ensures { result ≡ fcs_table }
+pub fn fcs_table() -> &'static [u16; 256]
+    ensures { result.now ≡ fcs_table }
 {
-    FCS_TABLE
+    &FCS_TABLE
 }

@@ -3,13 +3,9 @@
 
 use std::io;
 
-fn print_entry(rt: &impl Print, byte: u8) -> io::Result<()> {
-    println!(rt; "{}", fcs::entry_by_bits(byte))
-}
-
 fn main(rt: HostRuntime) -> io::Result<()> {
     for byte in 0..=u8::MAX {
-        print_entry(&rt, byte)?;
+        println!(rt; "{}", fcs::entry_by_bits(byte))?;
     }
     Ok(())
 }

@@ -1,13 +1,11 @@
 -- "For us": document 01, "Header facts"; IEEE 802.15.4-2024, 6.6.2, as the Rust cites it.
 -- Assumes nothing.
-use Rattle.std.specs.Prelude.{ℕ, ◌+◌, ◌*◌, ◌-◌, ◌/◌, ◌%◌, ◌^◌, ◌≡◌, Bool, true, false, ◌&&◌, ◌||◌, eqb}
+use Rattle.std.specs.Prelude.{ℕ, ◌+◌, ◌*◌, ◌-◌, ◌/◌, ◌%◌, ◌^◌, ◌≡◌, Bool, true, false, ◌&&◌, ◌||◌, eqb, Option, Some, None}
 use Rattle.frame_control.specs.FrameControl.{well_formed}
-use Rattle.header.specs.declared.FrameControlFact.{FrameControlFact}
-use Rattle.header.specs.declared.PanId.{PanId}
 use Rattle.header.specs.declared.Address.{Address}
-use Rattle.header.specs.declared.AddressingFact.{AddressingFact}
 use Rattle.header.specs.declared.AddressingFields.{AddressingFields}
 use Rattle.header.specs.declared.PreliminaryFrameInfo.{PreliminaryFrameInfo}
+use Rattle.frame_control.specs.declared.FrameControl.{FrameControl}
 
 -- FFFF: the broadcast PAN
 abbrev pub broadcast_pan_id : ℕ
@@ -26,14 +24,14 @@ unfoldable pub short_address_of : ℕ → ℕ
 short_address_of hardware = 256 * hardware_byte hardware 6 + hardware_byte hardware 7
 
 -- "frame control [is] there and well formed"
-unfoldable pub control_passes : FrameControlFact → Bool
-control_passes (FrameControlFact.Is fc) = well_formed fc
-control_passes FrameControlFact.Missing = false
+unfoldable pub control_passes : Option FrameControl → Bool
+control_passes (Some fc) = well_formed fc
+control_passes None = false
 
 -- "the destination PAN is omitted by the rules above, ours or FFFF (hexadecimal)"
-unfoldable pub pan_id_for_us : ℕ → PanId → Bool
-pan_id_for_us pan PanId.Omitted = true
-pan_id_for_us pan (PanId.Id id) = eqb id pan || eqb id broadcast_pan_id
+unfoldable pub pan_id_for_us : ℕ → Option ℕ → Bool
+pan_id_for_us pan None = true
+pan_id_for_us pan (Some id) = eqb id pan || eqb id broadcast_pan_id
 
 -- "the destination is short FFFF, or absent with implicit broadcast on, or short equal to hardware bytes 6 and 7 ..,
 -- or extended equal to the hardware address"
@@ -43,10 +41,10 @@ address_for_us hardware implicit (Address.Short a) = eqb a broadcast_address || 
 address_for_us hardware implicit (Address.Extended a) = eqb a hardware
 
 -- "addressing [is] there"
-unfoldable pub addressing_for_us : ℕ → ℕ → Bool → AddressingFact → Bool
-addressing_for_us hardware pan implicit (AddressingFact.Are f) =
+unfoldable pub addressing_for_us : ℕ → ℕ → Bool → Option AddressingFields → Bool
+addressing_for_us hardware pan implicit (Some f) =
     pan_id_for_us pan f.dst_pan_id && address_for_us hardware implicit f.dst_address
-addressing_for_us hardware pan implicit AddressingFact.Missing = false
+addressing_for_us hardware pan implicit None = false
 
 -- "For us: frame control and addressing are there and well formed; .." No other fact is looked at.
 unfoldable pub for_us : ℕ → ℕ → Bool → PreliminaryFrameInfo → Bool
@@ -73,6 +71,6 @@ ShortAddressIsLow = (hardware : ℕ) → hardware % 65536 ≡ short_address_of h
 abbrev pub AbsentNeedsImplicit : Type 0
 AbsentNeedsImplicit =
     (hardware pan : ℕ) (info : PreliminaryFrameInfo) (f : AddressingFields) →
-    info.addressing_fields ≡ AddressingFact.Are f →
+    info.addressing_fields ≡ Some f →
     f.dst_address ≡ Address.Absent →
     for_us hardware pan false info ≡ false

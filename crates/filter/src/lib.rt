@@ -2,58 +2,33 @@
 #![tactic(auto)]
 
 ghost use Rattle.std.specs.Prelude.{◌≡◌};
-ghost use Rattle.filter.specs.Filter.{control_passes, pan_id_for_us, address_for_us, addressing_for_us, for_us};
+ghost use Rattle.filter.specs.Filter.{pan_id_for_us, address_for_us, for_us};
 
-use header::{Address, AddressingFact, FrameControlFact, PanId, PreliminaryFrameInfo};
+use header::{Address, PreliminaryFrameInfo};
 
 // The destination PAN is omitted, ours or the broadcast PAN.
-fn is_pan_id_for_us(pan: u16, id: PanId) -> bool
+#[tactic(auto, unfolding(crate::specs::Filter::pan_id_for_us))]
+fn is_pan_id_for_us(pan: u16, id: Option<u16>) -> bool
     ensures { result ≡ pan_id_for_us pan id }
 {
-    match id {
-        PanId::Omitted => true,
-        PanId::Id(n) => util::either(n == pan, n == 0xFFFF),
-    }
+    id.is_none_or(|id| id == pan || id == 0xFFFF)
 }
 
 // The destination is the broadcast address, absent with implicit broadcast on, our short address or our hardware address.
+#[tactic(auto, using(crate::proofs::Laws::short_address_is_low), unfolding(crate::specs::Filter::address_for_us))]
 fn is_address_for_us(hardware: u64, implicit: bool, address: Address) -> bool
     ensures { result ≡ address_for_us hardware implicit address }
 {
     match address {
         Address::Absent => implicit,
-        Address::Short(a) => util::either(a == 0xFFFF, (a as u64) == hardware % 65536),
+        Address::Short(a) => a == 0xFFFF || u64::from(a) == hardware % 65536,
         Address::Extended(a) => a == hardware,
     }
 }
 
-fn is_control_valid(control: FrameControlFact) -> bool
-    ensures { result ≡ control_passes control }
-{
-    match control {
-        FrameControlFact::Is(fc) => frame_control::is_valid(fc),
-        FrameControlFact::Missing => false,
-    }
-}
-
-fn is_addressing_for_us(hardware: u64, pan: u16, implicit: bool, fact: AddressingFact) -> bool
-    ensures { result ≡ addressing_for_us hardware pan implicit fact }
-{
-    match fact {
-        AddressingFact::Are(fields) => {
-            let dst_pan_id = fields.dst_pan_id;
-            let dst_address = fields.dst_address;
-            util::both(
-                is_pan_id_for_us(pan, dst_pan_id),
-                is_address_for_us(hardware, implicit, dst_address),
-            )
-        }
-        AddressingFact::Missing => false,
-    }
-}
-
 // Whether a frame with these facts is well formed and for the station with this hardware address (its eight bytes, highest
-// first, as one number), PAN and implicit broadcast setting.
+// first, as one number), PAN and implicit broadcast setting. (Not a struct of the three: it would be made for this call alone.)
+#[tactic(auto, unfolding(crate::specs::Filter::for_us, crate::specs::Filter::control_passes, crate::specs::Filter::addressing_for_us))]
 pub fn is_frame_valid_and_for_us(
     hardware: u64,
     pan: u16,
@@ -62,10 +37,9 @@ pub fn is_frame_valid_and_for_us(
 ) -> bool
     ensures { result ≡ for_us hardware pan implicit info }
 {
-    let control = info.frame_control;
-    let fields = info.addressing_fields;
-    util::both(
-        is_control_valid(control),
-        is_addressing_for_us(hardware, pan, implicit, fields),
-    )
+    info.frame_control.is_some_and(|control| control.is_valid())
+        && info.addressing_fields.is_some_and(|fields| {
+            is_pan_id_for_us(pan, fields.dst_pan_id)
+                && is_address_for_us(hardware, implicit, fields.dst_address)
+        })
 }

@@ -10,7 +10,7 @@ ghost use Rattle.fcs.specs.Check.{check_of, check_number};
 pub extern "C" fn widosha_preliminary_frame_info(frame: &[u8], info: &mut [u8]) -> u8
     ensures { InfoCalled frame.now info.old result info.new }
 {
-    info_bytes::preliminary_frame_info(frame, info)
+    refusals::number(info_bytes::preliminary_frame_info(frame, info))
 }
 
 #[unsafe(no_mangle)]

@@ -1,5 +1,6 @@
 -- A header put together from its fields gives them back; an absent source is there with control.
 -- Assumes nothing.
+use Rattle.std.proofs.Common.{Some, ℕ}
 use Prim.Native.Nat.{ℕ, zero, suc, ◌+◌, ◌≤◌}
 use mathlib.Core.Bool.{Bool, true, false, cond}
 use mathlib.Core.Path.{◌≡◌, refl, ◌∙◌, ap}
@@ -15,10 +16,6 @@ use Rattle.frame_control.specs.FrameControl.{frame_control_of, well_formed}
 use Rattle.addressing.specs.Addressing.{address_length, present, pan_id_length, pan_ids_of, lengths_of}
 use Rattle.addressing.proofs.Laws.{source_pan_needs_source}
 use Rattle.header.specs.declared.Address.{Address}
-use Rattle.header.specs.declared.AddressingFact.{AddressingFact}
-use Rattle.header.specs.declared.SrcPanIdFact.{SrcPanIdFact}
-use Rattle.header.specs.declared.AddressFact.{AddressFact}
-use Rattle.header.specs.declared.AddressingEndFact.{AddressingEndFact}
 use Rattle.header.specs.declared.PreliminaryFrameInfo.{PreliminaryFrameInfo}
 use Rattle.header.specs.Header.{addressing_begin, dst_address_begin, src_pan_id_begin, src_address_begin, header_length, frame_control_fact, seq_nr_fact, pan_id_of, address_of, addressing_fact, src_pan_id_fact, address_fact, addressing_end_fact, numbered_info, after_control, info_of, FieldsInOrder, AbsentSourceThere}
 use Rattle.header.proofs.Laws.{pan_stays, address_stays}
@@ -54,7 +51,7 @@ address_next xs ys at Short e = rw (number_next xs ys at 2 e)
 address_next xs ys at Extended e = rw (number_next xs ys at 8 e)
 
 -- an address whose bytes have arrived is there
-address_there : (frame : List ℕ) (at : ℕ) (mode : AddressingMode) → at + address_length mode ≤ length frame → address_fact frame at mode ≡ AddressFact.Is (address_of frame at mode)
+address_there : (frame : List ℕ) (at : ℕ) (mode : AddressingMode) → at + address_length mode ≤ length frame → address_fact frame at mode ≡ Some (address_of frame at mode)
 unfolding address_fact address_of address_length
 address_there frame at Absent h = refl
 address_there frame at Unknown h = refl
@@ -109,7 +106,7 @@ module _ (low high : ℕ) (number dp da sp sa : List ℕ) where
     whole_length : header_length fc ≡ length whole
     whole_length = let e : length whole ≡ length to_src_pan + length sa = length-append to_src_pan sa in omega (arith, e, src_pan_length, ls)
 
-    own_pan_id : (pan_ids_of fc).src ≡ true → (info_of to_src_pan).src_pan_id ≡ SrcPanIdFact.Is (number_at sp 0 2)
+    own_pan_id : (pan_ids_of fc).src ≡ true → (info_of to_src_pan).src_pan_id ≡ Some (number_at sp 0 2)
     unfolding src_pan_id_fact lengths_of pan_id_length
     own_pan_id o =
         let two : (lengths_of fc).src_pan_id ≡ 2 = rw o in
@@ -117,7 +114,7 @@ module _ (low high : ℕ) (number dp da sp sa : List ℕ) where
         ap (λ (i : PreliminaryFrameInfo). i.src_pan_id) (read low high v (((number ++ dp) ++ da) ++ sp))
         ∙ rw (source_pan_needs_source fc o, o, le-leb (src_pan_id_begin fc + 2) (length to_src_pan) k, number_next to_dst sp (src_pan_id_begin fc) 2 dst_length)
 
-    pan_id_of_destination : (pan_ids_of fc).src ≡ false → present fc.src_addressing_mode ≡ true → (pan_ids_of fc).dst ≡ true → (info_of to_dst_pan).src_pan_id ≡ SrcPanIdFact.Is (number_at dp 0 2)
+    pan_id_of_destination : (pan_ids_of fc).src ≡ false → present fc.src_addressing_mode ≡ true → (pan_ids_of fc).dst ≡ true → (info_of to_dst_pan).src_pan_id ≡ Some (number_at dp 0 2)
     unfolding src_pan_id_fact lengths_of pan_id_length
     pan_id_of_destination o s d =
         let two : (lengths_of fc).dst_pan_id ≡ 2 = rw d in
@@ -125,14 +122,14 @@ module _ (low high : ℕ) (number dp da sp sa : List ℕ) where
         ap (λ (i : PreliminaryFrameInfo). i.src_pan_id) (read low high v (number ++ dp))
         ∙ rw (s, o, d, le-leb (addressing_begin fc + 2) (length to_dst_pan) k, number_next head dp (addressing_begin fc) 2 head_length)
 
-    source : (info_of whole).src_address ≡ AddressFact.Is (address_of sa 0 fc.src_addressing_mode)
+    source : (info_of whole).src_address ≡ Some (address_of sa 0 fc.src_addressing_mode)
     unfolding lengths_of
     source =
         ap (λ (i : PreliminaryFrameInfo). i.src_address) (read low high v ((((number ++ dp) ++ da) ++ sp) ++ sa))
         ∙ address_there whole (src_address_begin fc) fc.src_addressing_mode (omega (arith, whole_length))
-        ∙ ap AddressFact.Is (address_next to_src_pan sa (src_address_begin fc) fc.src_addressing_mode src_pan_length)
+        ∙ ap Some (address_next to_src_pan sa (src_address_begin fc) fc.src_addressing_mode src_pan_length)
 
-    destination : (info_of whole).addressing_fields ≡ AddressingFact.Are (record { dst_pan_id = pan_id_of dp 0 (length dp); dst_address = address_of da 0 fc.dst_addressing_mode })
+    destination : (info_of whole).addressing_fields ≡ Some (record { dst_pan_id = pan_id_of dp 0 (length dp); dst_address = address_of da 0 fc.dst_addressing_mode })
     unfolding addressing_fact lengths_of
     destination =
         let begin = addressing_begin fc in
@@ -150,7 +147,7 @@ module _ (low high : ℕ) (number dp da sp sa : List ℕ) where
         ap (λ (i : PreliminaryFrameInfo). i.addressing_fields) (read low high v ((((number ++ dp) ++ da) ++ sp) ++ sa))
         ∙ rw (le-leb (header_length fc) (length whole) (omega (arith, whole_length)), p, a, ld)
 
-    ends : (info_of whole).addressing_end ≡ AddressingEndFact.Is (length whole)
+    ends : (info_of whole).addressing_end ≡ Some (length whole)
     unfolding addressing_end_fact
     ends =
         ap (λ (i : PreliminaryFrameInfo). i.addressing_end) (read low high v ((((number ++ dp) ++ da) ++ sp) ++ sa))
@@ -166,7 +163,7 @@ fields_in_order low high number dp da sp sa v ln ld la lp ls =
       ends = ends low high number dp da sp sa v ln ld la lp ls;
     }
 
-absent : (frame : List ℕ) (at : ℕ) (mode : AddressingMode) → present mode ≡ false → address_fact frame at mode ≡ AddressFact.Is Address.Absent
+absent : (frame : List ℕ) (at : ℕ) (mode : AddressingMode) → present mode ≡ false → address_fact frame at mode ≡ Some Address.Absent
 unfolding address_fact present
 absent frame at Absent e = refl
 absent frame at Unknown e = refl

@@ -7,11 +7,11 @@ use lib.ListN.{length}
 use borrow.Author.Tests.{eq-eqb, ne_eqb}
 use Rattle.util.specs.Bytes.{stored_over}
 use Rattle.util.proofs.Stores.{over}
-use Rattle.info_bytes.specs.Info.{written_fields, written_facts, written_info, InfoCalled}
+use Rattle.info_bytes.specs.Info.{written_facts, written_info, InfoCalled}
 use Rattle.info_bytes.proofs.ReadBack.{info_reads_back}
 
 info_length : (frame : List ℕ) → length (written_info frame) ≡ 32
-unfolding written_info written_facts written_fields
+unfolding written_info written_facts
 info_length frame = refl
 
 module _ (frame info : List ℕ) where

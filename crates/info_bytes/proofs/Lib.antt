@@ -1,3 +1,3 @@
-pub mod Assembled
 pub mod ReadBack
+pub mod Parts
 pub mod Called

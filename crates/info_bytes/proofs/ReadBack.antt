@@ -1,5 +1,8 @@
 -- The facts of a frame are read back from their bytes.
 -- Assumes nothing.
+use Rattle.std.proofs.lemmas.Option.{none-some}
+use Rattle.std.proofs.Common.{Option, Some, None, ℕ}
+use Rattle.std.specs.Option.{unwrap_or}
 use Prim.Native.Nat.{ℕ, ◌+◌, ◌^◌, ◌<◌}
 use mathlib.Core.Path.{◌≡◌, refl, sym, ap}
 use mathlib.Core.Bool.{Bool, true, false, cond}
@@ -14,86 +17,72 @@ use Rattle.frame_control.specs.declared.AddressingMode.{AddressingMode}
 use Rattle.frame_control.specs.declared.AddressingMode.TheVariants.{Absent, Unknown, Short, Extended}
 use Rattle.frame_control.specs.declared.FrameControl.{FrameControl}
 use Rattle.frame_control.specs.FrameControl.{frame_control_of, well_formed}
-use Rattle.header.specs.declared.FrameControlFact.{FrameControlFact}
-use Rattle.header.specs.declared.SeqNrFact.{SeqNrFact}
-use Rattle.header.specs.declared.PanId.{PanId}
 use Rattle.header.specs.declared.Address.{Address}
-use Rattle.header.specs.declared.AddressingFact.{AddressingFact}
-use Rattle.header.specs.declared.SrcPanIdFact.{SrcPanIdFact}
-use Rattle.header.specs.declared.AddressFact.{AddressFact}
-use Rattle.header.specs.declared.AddressingEndFact.{AddressingEndFact}
 use Rattle.header.specs.declared.PreliminaryFrameInfo.{PreliminaryFrameInfo}
 use Rattle.addressing.specs.Addressing.{present, pan_ids_of}
 use Rattle.header.specs.Header.{addressing_begin, src_pan_id_begin, arrived, header_length, frame_control_fact, pan_id_of, address_of, addressing_fact, src_pan_id_fact, address_fact, addressing_end_fact, after_control, info_of}
-use Rattle.header.proofs.Fields.{chose_first, no_control}
+use Rattle.header.proofs.Fields.{chose_first}
 use Rattle.header.proofs.Laws.{header_length_bounded}
-use Rattle.info_bytes.specs.declared.PanIdFields.{PanIdFields}
 use Rattle.info_bytes.specs.declared.AddressFields.{AddressFields}
-use Rattle.info_bytes.specs.Info.{control_fields, seq_nr_fields, pan_id_fields, address_fields, dst_fields, src_pan_id_fields, src_address_fields, end_byte, written_fields, written_facts, written_info, info_at, InfoReadsBack}
+use Rattle.info_bytes.specs.Info.{there, beside, address_fields, destination, source, written_facts, written_info, info_at, InfoReadsBack}
+use Rattle.header.specs.declared.AddressingFields.{AddressingFields}
 
 -- ---- What the bytes can hold
 
-abbrev ControlFits : ℕ → ℕ → FrameControlFact → Type 0
-ControlFits low high (FrameControlFact.Is fc) = fc ≡ frame_control_of low high
-ControlFits low high FrameControlFact.Missing = Unit {0}
+abbrev ControlFits : ℕ → ℕ → Option FrameControl → Type 0
+ControlFits low high (Some fc) = fc ≡ frame_control_of low high
+ControlFits low high None = Unit {0}
 
-abbrev PanIdFits : PanId → Type 0
-PanIdFits PanId.Omitted = Unit {0}
-PanIdFits (PanId.Id n) = n < 256 ^ 2
+abbrev PanIdFits : Option ℕ → Type 0
+PanIdFits None = Unit {0}
+PanIdFits (Some n) = n < 256 ^ 2
 
 abbrev AddressFits : Address → Type 0
 AddressFits Address.Absent = Unit {0}
 AddressFits (Address.Short a) = a < 256 ^ 8
 AddressFits (Address.Extended a) = a < 256 ^ 8
 
-abbrev AddressingFits : AddressingFact → Type 0
-AddressingFits (AddressingFact.Are f) = PanIdFits f.dst_pan_id × AddressFits f.dst_address
-AddressingFits AddressingFact.Missing = Unit {0}
+abbrev AddressingFits : Option AddressingFields → Type 0
+AddressingFits (Some f) = PanIdFits f.dst_pan_id × AddressFits f.dst_address
+AddressingFits None = Unit {0}
 
-abbrev SrcPanIdFits : SrcPanIdFact → Type 0
-SrcPanIdFits (SrcPanIdFact.Is n) = n < 256 ^ 2
-SrcPanIdFits SrcPanIdFact.Missing = Unit {0}
+abbrev SrcAddressFits : Option Address → Type 0
+SrcAddressFits (Some a) = AddressFits a
+SrcAddressFits None = Unit {0}
 
-abbrev SrcAddressFits : AddressFact → Type 0
-SrcAddressFits (AddressFact.Is a) = AddressFits a
-SrcAddressFits AddressFact.Missing = Unit {0}
-
-abbrev EndFits : AddressingEndFact → Type 0
-EndFits (AddressingEndFact.Is place) = 0 < place
-EndFits AddressingEndFact.Missing = Unit {0}
+abbrev EndFits : Option ℕ → Type 0
+EndFits (Some place) = 0 < place
+EndFits None = Unit {0}
 
 record Fits (low high : ℕ) (info : PreliminaryFrameInfo) : Type 0 where
   control : ControlFits low high info.frame_control
   addressing : AddressingFits info.addressing_fields
-  src_pan_id : SrcPanIdFits info.src_pan_id
+  src_pan_id : PanIdFits info.src_pan_id
   src_address : SrcAddressFits info.src_address
   end : EndFits info.addressing_end
 
 -- ---- Each fact by itself, from its numbers
 
-control_back : (low high : ℕ) (f : FrameControlFact) → ControlFits low high f
-    → cond (eqb (control_fields low high f).there 1) (FrameControlFact.Is (frame_control_of (control_fields low high f).low (control_fields low high f).high)) FrameControlFact.Missing ≡ f
-unfolding control_fields
-control_back low high (FrameControlFact.Is fc) e = ap (λ (x : FrameControl). FrameControlFact.Is x) (sym e)
-control_back low high FrameControlFact.Missing e = refl
+control_back : (low high : ℕ) (f : Option FrameControl) → ControlFits low high f
+    → cond (eqb (there f) 1) (Some (frame_control_of (beside f low) (beside f high))) None ≡ f
+control_back low high (Some fc) e = ap (λ (x : FrameControl). Some x) (sym e)
+control_back low high None e = refl
 
-seq_nr_back : (f : SeqNrFact) → cond (eqb (seq_nr_fields f).there 1) (SeqNrFact.Is (seq_nr_fields f).number) SeqNrFact.Missing ≡ f
-unfolding seq_nr_fields
-seq_nr_back (SeqNrFact.Is n) = refl
-seq_nr_back SeqNrFact.Missing = refl
+seq_nr_back : (f : Option ℕ) → cond (eqb (there f) 1) (Some (unwrap_or f 0)) None ≡ f
+seq_nr_back (Some n) = refl
+seq_nr_back None = refl
 
-abbrev pan_id_from : PanIdFields → PanId
-pan_id_from x = cond (eqb x.there 1) (PanId.Id (number_at (bytes_of 2 x.number) 0 2)) PanId.Omitted
+abbrev pan_id_from : Option ℕ → Option ℕ
+pan_id_from x = cond (eqb (there x) 1) (Some (number_at (bytes_of 2 (unwrap_or x 0)) 0 2)) None
 
 abbrev address_from : AddressFields → Address
 address_from x =
     let number = number_at (bytes_of 8 x.number) 0 8 in
     cond (eqb x.mode 2) (Address.Short number) (cond (eqb x.mode 3) (Address.Extended number) Address.Absent)
 
-pan_id_back : (x : PanId) → PanIdFits x → pan_id_from (pan_id_fields x) ≡ x
-unfolding pan_id_fields
-pan_id_back PanId.Omitted F = refl
-pan_id_back (PanId.Id n) F = ap (λ (k : ℕ). PanId.Id k) (read_back 2 n F)
+pan_id_back : (x : Option ℕ) → PanIdFits x → pan_id_from x ≡ x
+pan_id_back None F = refl
+pan_id_back (Some n) F = ap (λ (k : ℕ). Some k) (read_back 2 n F)
 
 address_back : (x : Address) → AddressFits x → address_from (address_fields x) ≡ x
 unfolding address_fields
@@ -101,39 +90,30 @@ address_back Address.Absent F = refl
 address_back (Address.Short a) F = ap (λ (k : ℕ). Address.Short k) (read_back 8 a F)
 address_back (Address.Extended a) F = ap (λ (k : ℕ). Address.Extended k) (read_back 8 a F)
 
-dst_back : (f : AddressingFact) → AddressingFits f
-    → cond (eqb (dst_fields f).there 1) (AddressingFact.Are (record { dst_pan_id = pan_id_from (dst_fields f).pan_id; dst_address = address_from (dst_fields f).address })) AddressingFact.Missing ≡ f
-unfolding dst_fields
-dst_back (AddressingFact.Are f) F =
+dst_back : (f : Option AddressingFields) → AddressingFits f
+    → cond (eqb (there f) 1) (Some (record { dst_pan_id = pan_id_from (destination f).dst_pan_id; dst_address = address_from (address_fields (destination f).dst_address) })) None ≡ f
+dst_back (Some f) F =
     let p = pan_id_back f.dst_pan_id F.0 in
     let a = address_back f.dst_address F.1 in
-    λ i. AddressingFact.Are (record { dst_pan_id = p i; dst_address = a i })
-dst_back AddressingFact.Missing F = refl
+    λ i. Some (record { dst_pan_id = p i; dst_address = a i })
+dst_back None F = refl
 
-src_pan_id_back : (f : SrcPanIdFact) → SrcPanIdFits f
-    → cond (eqb (src_pan_id_fields f).there 1) (SrcPanIdFact.Is (number_at (bytes_of 2 (src_pan_id_fields f).number) 0 2)) SrcPanIdFact.Missing ≡ f
-unfolding src_pan_id_fields
-src_pan_id_back (SrcPanIdFact.Is n) F = ap (λ (k : ℕ). SrcPanIdFact.Is k) (read_back 2 n F)
-src_pan_id_back SrcPanIdFact.Missing F = refl
+src_address_back : (f : Option Address) → SrcAddressFits f
+    → cond (eqb (there f) 1) (Some (address_from (address_fields (source f)))) None ≡ f
+src_address_back (Some a) F = ap (λ (x : Address). Some x) (address_back a F)
+src_address_back None F = refl
 
-src_address_back : (f : AddressFact) → SrcAddressFits f
-    → cond (eqb (src_address_fields f).there 1) (AddressFact.Is (address_from (src_address_fields f).address)) AddressFact.Missing ≡ f
-unfolding src_address_fields
-src_address_back (AddressFact.Is a) F = ap (λ (x : Address). AddressFact.Is x) (address_back a F)
-src_address_back AddressFact.Missing F = refl
-
-end_back : (f : AddressingEndFact) → EndFits f → cond (eqb (end_byte f) 0) AddressingEndFact.Missing (AddressingEndFact.Is (end_byte f)) ≡ f
-unfolding end_byte
-end_back (AddressingEndFact.Is place) F = simp (ne_eqb place 0 (λ (e : place ≡ 0). omega (arith, F, e)))
-end_back AddressingEndFact.Missing F = refl
+end_back : (f : Option ℕ) → EndFits f → cond (eqb (unwrap_or f 0) 0) None (Some (unwrap_or f 0)) ≡ f
+end_back (Some place) F = simp (ne_eqb place 0 (λ (e : place ≡ 0). omega (arith, F, e)))
+end_back None F = refl
 
 facts_back : (low high : ℕ) (info : PreliminaryFrameInfo) → Fits low high info → info_at (written_facts low high info) ≡ info
-unfolding info_at written_facts written_fields number_at
+unfolding info_at written_facts number_at
 facts_back low high info F =
     let c = control_back low high info.frame_control F.control in
     let n = seq_nr_back info.seq_nr in
     let d = dst_back info.addressing_fields F.addressing in
-    let p = src_pan_id_back info.src_pan_id F.src_pan_id in
+    let p = pan_id_back info.src_pan_id F.src_pan_id in
     let s = src_address_back info.src_address F.src_address in
     let e = end_back info.addressing_end F.end in
     λ i. record { frame_control = c i; seq_nr = n i; addressing_fields = d i; src_pan_id = p i; src_address = s i; addressing_end = e i }
@@ -164,25 +144,25 @@ module _ (frame : List ℕ) (bytes : AllBytes frame) where
   src_address_fits at Short = of_both SrcAddressFits (arrived frame (at + 2)) (address_fits at Short) tt
   src_address_fits at Extended = of_both SrcAddressFits (arrived frame (at + 8)) (address_fits at Extended) tt
 
-  two_bytes_fit : (at : ℕ) → SrcPanIdFits (cond (arrived frame (at + 2)) (SrcPanIdFact.Is (number_at frame at 2)) SrcPanIdFact.Missing)
-  two_bytes_fit at = of_both SrcPanIdFits (arrived frame (at + 2)) (fits_bytes frame bytes at 2) tt
+  two_bytes_fit : (at : ℕ) → PanIdFits (cond (arrived frame (at + 2)) (Some (number_at frame at 2)) None)
+  two_bytes_fit at = of_both PanIdFits (arrived frame (at + 2)) (fits_bytes frame bytes at 2) tt
 
-  src_pan_id_fits : (fc : FrameControl) → SrcPanIdFits (src_pan_id_fact frame fc)
+  src_pan_id_fits : (fc : FrameControl) → PanIdFits (src_pan_id_fact frame fc)
   unfolding src_pan_id_fact
   src_pan_id_fits fc =
-      of_both SrcPanIdFits (present fc.src_addressing_mode)
-      (of_both SrcPanIdFits (pan_ids_of fc).src (two_bytes_fit (src_pan_id_begin fc))
-      (of_both SrcPanIdFits (pan_ids_of fc).dst (two_bytes_fit (addressing_begin fc)) tt))
+      of_both PanIdFits (present fc.src_addressing_mode)
+      (of_both PanIdFits (pan_ids_of fc).src (two_bytes_fit (src_pan_id_begin fc))
+      (of_both PanIdFits (pan_ids_of fc).dst (two_bytes_fit (addressing_begin fc)) tt))
       tt
 
   abbrev Fit : PreliminaryFrameInfo → Type 0
   Fit = Fits (get_or frame 0 0) (get_or frame 1 0)
 
-  facts_fit : (c : FrameControlFact) → frame_control_fact frame ≡ c → Fit (after_control frame c)
+  facts_fit : (c : Option FrameControl) → frame_control_fact frame ≡ c → Fit (after_control frame c)
   unfolding after_control frame_control_fact addressing_fact addressing_end_fact
-  facts_fit FrameControlFact.Missing there = record { control = tt; addressing = tt; src_pan_id = tt; src_address = tt; end = tt }
-  facts_fit (FrameControlFact.Is fc) there =
-      let f : FrameControlFact.Is (frame_control_of (get_or frame 0 0) (get_or frame 1 0)) ≡ FrameControlFact.Is fc = (chose_first (arrived frame 2) there no_control).1 in
+  facts_fit None there = record { control = tt; addressing = tt; src_pan_id = tt; src_address = tt; end = tt }
+  facts_fit (Some fc) there =
+      let f : Some (frame_control_of (get_or frame 0 0) (get_or frame 1 0)) ≡ Some fc = (chose_first (arrived frame 2) there (none-some _)).1 in
       let e : fc ≡ frame_control_of (get_or frame 0 0) (get_or frame 1 0) = cc in
       let k = header_length_bounded fc in
       of_both Fit (well_formed fc)

@@ -2,34 +2,11 @@
 #![tactic(auto)]
 
 ghost use Rattle.std.specs.Prelude.{◌≡◌};
-ghost use Rattle.info_bytes.specs.Info.{control_fields, seq_nr_fields, pan_id_fields, address_fields, dst_fields, src_pan_id_fields, src_address_fields, end_byte, written_fields, written_info, InfoCalled};
+ghost use Rattle.refusals.specs.Refusals.{number_of};
+ghost use Rattle.info_bytes.specs.Info.{address_fields, written_info, InfoCalled};
 
-use header::{
-    Address, AddressFact, AddressingEndFact, AddressingFact, FrameControlFact, PanId,
-    PreliminaryFrameInfo, SeqNrFact, SrcPanIdFact,
-};
-
-// Control: whether it is there, and its two bytes.
-#[derive(Clone, Copy)]
-struct ControlFields {
-    pub there: u8,
-    pub low: u8,
-    pub high: u8,
-}
-
-// The sequence number: whether it is there, and its byte.
-#[derive(Clone, Copy)]
-struct SeqNrFields {
-    pub there: u8,
-    pub number: u8,
-}
-
-// A PAN id: whether it is there, and its number.
-#[derive(Clone, Copy)]
-struct PanIdFields {
-    pub there: u8,
-    pub number: u16,
-}
+use header::{Address, AddressingFields};
+use refusals::Refusal;
 
 // An address: its mode, as control has it, and its number.
 #[derive(Clone, Copy)]
@@ -38,68 +15,7 @@ struct AddressFields {
     pub number: u64,
 }
 
-// Addressing: whether it is there, the destination's PAN id and the destination.
-#[derive(Clone, Copy)]
-struct DstFields {
-    pub there: u8,
-    pub pan_id: PanIdFields,
-    pub address: AddressFields,
-}
-
-// The source address: whether it is there, and the address.
-#[derive(Clone, Copy)]
-struct SrcAddressFields {
-    pub there: u8,
-    pub address: AddressFields,
-}
-
-fn control_fields(fact: FrameControlFact, low: u8, high: u8) -> ControlFields
-    ensures { result ≡ control_fields low high fact }
-{
-    match fact {
-        FrameControlFact::Is(_) => ControlFields {
-            there: 1,
-            low: low,
-            high: high,
-        },
-        FrameControlFact::Missing => ControlFields {
-            there: 0,
-            low: 0,
-            high: 0,
-        },
-    }
-}
-
-fn seq_nr_fields(fact: SeqNrFact) -> SeqNrFields
-    ensures { result ≡ seq_nr_fields fact }
-{
-    match fact {
-        SeqNrFact::Is(n) => SeqNrFields {
-            there: 1,
-            number: n,
-        },
-        SeqNrFact::Missing => SeqNrFields {
-            there: 0,
-            number: 0,
-        },
-    }
-}
-
-fn pan_id_fields(id: PanId) -> PanIdFields
-    ensures { result ≡ pan_id_fields id }
-{
-    match id {
-        PanId::Omitted => PanIdFields {
-            there: 0,
-            number: 0,
-        },
-        PanId::Id(n) => PanIdFields {
-            there: 1,
-            number: n,
-        },
-    }
-}
-
+#[tactic(auto, unfolding(crate::specs::Info::address_fields))]
 fn address_fields(address: Address) -> AddressFields
     ensures { result ≡ address_fields address }
 {
@@ -107,155 +23,53 @@ fn address_fields(address: Address) -> AddressFields
         Address::Absent => AddressFields { mode: 0, number: 0 },
         Address::Short(a) => AddressFields {
             mode: 2,
-            number: a as u64,
+            number: u64::from(a),
         },
-        Address::Extended(a) => AddressFields { mode: 3, number: a },
+        Address::Extended(number) => AddressFields { mode: 3, number },
     }
 }
 
-fn dst_fields(fact: AddressingFact) -> DstFields
-    ensures { result ≡ dst_fields fact }
-{
-    match fact {
-        AddressingFact::Are(fields) => {
-            let pan_id = fields.dst_pan_id;
-            let address = fields.dst_address;
-            DstFields {
-                there: 1,
-                pan_id: pan_id_fields(pan_id),
-                address: address_fields(address),
-            }
-        }
-        AddressingFact::Missing => DstFields {
-            there: 0,
-            pan_id: pan_id_fields(PanId::Omitted),
-            address: address_fields(Address::Absent),
-        },
-    }
-}
-
-fn src_pan_id_fields(fact: SrcPanIdFact) -> PanIdFields
-    ensures { result ≡ src_pan_id_fields fact }
-{
-    match fact {
-        SrcPanIdFact::Is(n) => PanIdFields {
-            there: 1,
-            number: n,
-        },
-        SrcPanIdFact::Missing => PanIdFields {
-            there: 0,
-            number: 0,
-        },
-    }
-}
-
-fn src_address_fields(fact: AddressFact) -> SrcAddressFields
-    ensures { result ≡ src_address_fields fact }
-{
-    match fact {
-        AddressFact::Is(address) => SrcAddressFields {
-            there: 1,
-            address: address_fields(address),
-        },
-        AddressFact::Missing => SrcAddressFields {
-            there: 0,
-            address: address_fields(Address::Absent),
-        },
-    }
-}
-
-fn end_byte(fact: AddressingEndFact) -> u8
-    ensures { result ≡ end_byte fact }
-{
-    match fact {
-        AddressingEndFact::Is(place) => place,
-        AddressingEndFact::Missing => 0,
-    }
-}
-
-fn encode_fields(
-    c: ControlFields,
-    n: SeqNrFields,
-    d: DstFields,
-    p: PanIdFields,
-    s: SrcAddressFields,
-    end: u8,
-) -> [u8; 32]
-    ensures { result ≡ written_fields c n d p s end }
-{
-    let dst_pan_id = d.pan_id;
-    let dst_address = d.address;
-    let src_address = s.address;
-    let dp = util::bytes_of_u16(dst_pan_id.number);
-    let da = util::bytes_of_u64(dst_address.number);
-    let sp = util::bytes_of_u16(p.number);
-    let sa = util::bytes_of_u64(src_address.number);
-    [
-        c.there,
-        c.low,
-        c.high,
-        n.there,
-        n.number,
-        d.there,
-        dst_pan_id.there,
-        dp[0],
-        dp[1],
-        dst_address.mode,
-        da[0],
-        da[1],
-        da[2],
-        da[3],
-        da[4],
-        da[5],
-        da[6],
-        da[7],
-        p.there,
-        sp[0],
-        sp[1],
-        s.there,
-        src_address.mode,
-        sa[0],
-        sa[1],
-        sa[2],
-        sa[3],
-        sa[4],
-        sa[5],
-        sa[6],
-        sa[7],
-        end,
-    ]
-}
-
-// The bytes of the facts of a frame.
+// The bytes of the facts of a frame; all bytes of a missing fact are 0.
 fn encode(frame: &[u8]) -> [u8; 32]
     ensures { result ≡ written_info frame.now }
 {
     let info = header::preliminary_frame_info(frame);
     let control = info.frame_control;
-    let seq_nr = info.seq_nr;
-    let addressing = info.addressing_fields;
-    let pan_id = info.src_pan_id;
-    let address = info.src_address;
-    let end = info.addressing_end;
-    encode_fields(
-        control_fields(control, util::byte_at(frame, 0), util::byte_at(frame, 1)),
-        seq_nr_fields(seq_nr),
-        dst_fields(addressing),
-        src_pan_id_fields(pan_id),
-        src_address_fields(address),
-        end_byte(end),
-    )
+    let dst = info.addressing_fields.unwrap_or(AddressingFields {
+        dst_pan_id: None,
+        dst_address: Address::Absent,
+    });
+    let dst_address = address_fields(dst.dst_address);
+    let src_address = address_fields(info.src_address.unwrap_or(Address::Absent));
+    let mut bytes = [0; 32];
+    bytes[0] = u8::from(control.is_some());
+    bytes[1] = control.and(Some(util::byte_at(frame, 0))).unwrap_or(0);
+    bytes[2] = control.and(Some(util::byte_at(frame, 1))).unwrap_or(0);
+    bytes[3] = u8::from(info.seq_nr.is_some());
+    bytes[4] = info.seq_nr.unwrap_or(0);
+    bytes[5] = u8::from(info.addressing_fields.is_some());
+    bytes[6] = u8::from(dst.dst_pan_id.is_some());
+    bytes[7..9].copy_from_slice(&dst.dst_pan_id.unwrap_or(0).to_le_bytes());
+    bytes[9] = dst_address.mode;
+    bytes[10..18].copy_from_slice(&dst_address.number.to_le_bytes());
+    bytes[18] = u8::from(info.src_pan_id.is_some());
+    bytes[19..21].copy_from_slice(&info.src_pan_id.unwrap_or(0).to_le_bytes());
+    bytes[21] = u8::from(info.src_address.is_some());
+    bytes[22] = src_address.mode;
+    bytes[23..31].copy_from_slice(&src_address.number.to_le_bytes());
+    bytes[31] = info.addressing_end.unwrap_or(0);
+    bytes
 }
 
-// Writes the facts that the arrived bytes of a frame give, where the slice for them has 32 bytes; returns 0, or the refusal 1.
-pub fn preliminary_frame_info(frame: &[u8], info: &mut [u8]) -> u8
-    ensures { InfoCalled frame.now info.old result info.new }
+// Writes the facts that the arrived bytes of a frame give, where the slice for them has 32 bytes; else refusal 1.
+pub fn preliminary_frame_info(frame: &[u8], info: &mut [u8]) -> Result<(), Refusal>
+    ensures { InfoCalled frame.now info.old (number_of result) info.new }
 {
     if info.len() == 32 {
         let new_info = encode(frame);
         util::store(&new_info, info);
-        0
+        Ok(())
     } else {
-        1
+        Err(Refusal::Slices)
     }
 }

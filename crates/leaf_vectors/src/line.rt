@@ -1,11 +1,12 @@
-// The columns of a line.
+// A line of 128 bytes: docs/VECTORS.md has its columns.
 
-// What a line asks, and the answer that it expects.
+// What a line asks, with the bytes of a frame and how many of them are given, and the answer that it expects.
 #[derive(Clone, Copy)]
 pub struct Question {
     pub section: u8,
     pub kind: u8,
-    pub length: usize,
+    length: u8,
+    bytes: [u8; 26],
     pub a: u64,
     pub b: u16,
     pub c: u8,
@@ -17,70 +18,32 @@ fn digit(c: u8) -> u8 {
     if c < 64 { c % 16 } else { (c % 16 + 9) % 16 }
 }
 
-fn byte(line: &[u8], at: usize) -> u8 {
-    let high = digit(util::byte_at(line, at)) as u16;
-    let low = digit(util::byte_at(line, std::num::wrapping_add_usize(at, 1))) as u16;
-    ((16 * high + low) % 256) as u8
+// The bytes that pairs of digits are.
+fn bytes<const N: usize>(digits: &[u8]) -> [u8; N] {
+    let mut all = [0; N];
+    for (byte, [high, low]) in all.iter_mut().zip(digits.as_chunks::<2>().0) {
+        *byte = digit(*high) << 4 | digit(*low);
+    }
+    all
 }
 
-fn half(line: &[u8], at: usize) -> u16 {
-    let high = byte(line, at) as u16;
-    let low = byte(line, std::num::wrapping_add_usize(at, 2)) as u16;
-    256 * high + low
-}
-
-fn word(line: &[u8], at: usize) -> u32 {
-    let high = half(line, at) as u32;
-    let low = half(line, std::num::wrapping_add_usize(at, 4)) as u32;
-    65536 * high + low
-}
-
-fn double(line: &[u8], at: usize) -> u64 {
-    let high = word(line, at) as u64;
-    let low = word(line, std::num::wrapping_add_usize(at, 8)) as u64;
-    0x1_0000_0000 * high + low
-}
-
-pub fn asked(line: &[u8]) -> Question {
-    Question {
-        section: util::byte_at(line, 0),
-        kind: util::byte_at(line, 2),
-        length: byte(line, 4) as usize,
-        a: double(line, 60),
-        b: half(line, 77),
-        c: byte(line, 82),
-        expected: double(line, 85),
+impl From<&[u8; 128]> for Question {
+    fn from(line: &[u8; 128]) -> Question {
+        Question {
+            section: line[0],
+            kind: line[2],
+            length: u8::from_be_bytes(bytes(&line[4..6])),
+            bytes: bytes(&line[7..59]),
+            a: u64::from_be_bytes(bytes(&line[60..76])),
+            b: u16::from_be_bytes(bytes(&line[77..81])),
+            c: u8::from_be_bytes(bytes(&line[82..84])),
+            expected: u64::from_be_bytes(bytes(&line[85..101])),
+        }
     }
 }
 
-// The 26 bytes from column 7 on.
-pub fn frame(line: &[u8]) -> [u8; 26] {
-    [
-        byte(line, 7),
-        byte(line, 9),
-        byte(line, 11),
-        byte(line, 13),
-        byte(line, 15),
-        byte(line, 17),
-        byte(line, 19),
-        byte(line, 21),
-        byte(line, 23),
-        byte(line, 25),
-        byte(line, 27),
-        byte(line, 29),
-        byte(line, 31),
-        byte(line, 33),
-        byte(line, 35),
-        byte(line, 37),
-        byte(line, 39),
-        byte(line, 41),
-        byte(line, 43),
-        byte(line, 45),
-        byte(line, 47),
-        byte(line, 49),
-        byte(line, 51),
-        byte(line, 53),
-        byte(line, 55),
-        byte(line, 57),
-    ]
+impl Question {
+    pub fn frame(&self) -> &[u8] {
+        &self.bytes[..usize::from(self.length).min(26)]
+    }
 }

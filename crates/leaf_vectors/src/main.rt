@@ -6,208 +6,120 @@ mod line;
 mod number;
 
 use line::Question;
-use std::io;
 use std::io::ErrorKind;
+use std::{fmt, io};
 
-// The vectors of a section, and those of them at which the answer is the expected one.
+// A section of the vectors: how many there are, and at how many of them the answer is the expected one.
 #[derive(Clone, Copy)]
-struct Count {
+struct Section {
+    letter: u8,
+    name: &'static str,
     vectors: u64,
     agree: u64,
 }
 
 #[derive(Clone, Copy)]
 struct Tally {
-    rust: Count,
-    differences: Count,
-    standard: Count,
-    marked: Count,
+    sections: [Section; 4],
     wrong: u64,
 }
 
-// The tally after a line, and whether there may be another.
-#[derive(Clone, Copy)]
-struct Turn {
-    tally: Tally,
-    more: bool,
-}
-
-fn none() -> Count {
-    Count {
-        vectors: 0,
-        agree: 0,
-    }
-}
-
-fn counted(c: Count, agrees: bool) -> Count {
-    let one = number::flag(agrees);
-    Count {
-        vectors: std::num::wrapping_add_u64(c.vectors, 1),
-        agree: std::num::wrapping_add_u64(c.agree, one),
-    }
-}
-
-// The answer of the leaves to a question.
-fn answer(q: Question, frame: &[u8]) -> u64 {
-    let kind = q.kind;
-    match kind {
-        b'v' => leaves_c::widosha_is_valid(number::control(frame)) as u64,
-        b'l' => leaves_c::widosha_addressing_fields_lengths(number::control(frame)) as u64,
-        b'f' => leaves_c::widosha_is_frame_valid_and_for_us(frame, q.a, q.b, q.c) as u64,
-        b'a' => leaves_c::widosha_ack_seq_num(frame) as u64,
-        b'i' => leaves_c::widosha_from_mpdu_length(q.b) as u64,
-        b'k' => leaves_c::widosha_is_ack_for(frame, q.b, q.c) as u64,
+// The answer of the leaves to a question; none where a fact is missing.
+fn answer(q: &Question) -> Option<u64> {
+    let frame = q.frame();
+    let control = util::u16_at(frame, 0);
+    let [low, high] = control.to_le_bytes();
+    let fc = frame_control::frame_control(low, high);
+    Some(match q.kind {
+        b'v' => leaves_c::widosha_is_valid(control).into(),
+        b'l' => leaves_c::widosha_addressing_fields_lengths(control).into(),
+        b'f' => leaves_c::widosha_is_frame_valid_and_for_us(frame, q.a, q.b, q.c).into(),
+        b'a' => leaves_c::widosha_ack_seq_num(frame).into(),
+        b'i' => leaves_c::widosha_from_mpdu_length(q.b).into(),
+        b'k' => leaves_c::widosha_is_ack_for(frame, q.b, q.c).into(),
         b't' => number::latest(phy::latest_ack_start(q.a)),
-        b'c' => number::fields(frame),
-        b'h' => number::header_length(frame),
-        b's' => number::seq_nr(frame),
-        b'p' => number::dst_pan_id(frame),
-        b'm' => number::dst_mode(frame),
-        b'd' => number::dst_address(frame),
-        b'q' => number::src_pan_id(frame),
-        b'n' => number::src_mode(frame),
-        b'o' => number::src_address(frame),
-        b'e' => number::addressing_end(frame),
+        b'c' => number::fields(fc),
+        b'h' => number::header_length(fc),
         b'w' => number::ack_written(frame, q.b, q.c),
-        b'r' => number::ranges(q.a, q.b),
-        _ => 0xFFFF_FFFF_FFFF_FFFF,
-    }
+        b'r' => number::ranges(q.a, q.b)?,
+        kind => number::fact(kind, header::preliminary_frame_info(frame))?,
+    })
 }
 
-// Shows the header bytes of a frame of the standard.
-fn show(rt: &impl Print, section: u8, kind: u8, line: &[u8], found: u64) -> io::Result<()> {
-    if section == b'S' {
-        if kind == b'h' {
-            rt.write_all(util::part(line, 102, 25))?;
-            println!(rt; ": {found} header bytes")?;
+impl Section {
+    fn new(letter: u8, name: &'static str) -> Section {
+        Section {
+            letter,
+            name,
+            vectors: 0,
+            agree: 0,
         }
     }
-    Ok(())
+
+    fn count(&mut self, agrees: bool) {
+        self.vectors = self.vectors.saturating_add(1);
+        self.agree = self.agree.saturating_add(agrees.into());
+    }
 }
 
-// Shows the first line at which the answer is not the expected one.
-fn complain(
-    rt: &impl Print,
-    earlier: u64,
-    agrees: bool,
-    line: &[u8],
-    found: u64,
-) -> io::Result<()> {
-    if earlier == 0 {
-        if !agrees {
+impl fmt::Display for Section {
+    fn fmt<W: fmt::Write>(&self, f: &mut fmt::Formatter<W>) -> fmt::Result {
+        write!(f, "{}: {} of {}", self.name, self.agree, self.vectors)
+    }
+}
+
+impl Tally {
+    fn new() -> Tally {
+        Tally {
+            sections: [
+                Section::new(b'R', "the Rust's answers"),
+                Section::new(b'X', "listed differences from the Rust"),
+                Section::new(b'S', "frames of the standard"),
+                Section::new(b'M', "marked rows"),
+            ],
+            wrong: 0,
+        }
+    }
+
+    // Counts a vector. It shows the header bytes of a frame of the standard, and the first line whose answer is not the expected one.
+    fn judge(&mut self, rt: &impl Print, line: &[u8; 128]) -> io::Result<()> {
+        let q = Question::from(line);
+        let found = answer(&q).unwrap_or(u64::MAX);
+        let agrees = found == q.expected;
+        if q.section == b'S' && q.kind == b'h' {
+            rt.write_all(&line[102..127])?;
+            println!(rt; ": {found} header bytes")?;
+        }
+        if !agrees && self.wrong == 0 {
             println!(rt; "first disagreement: {found:016x} at")?;
             rt.write_all(line)?;
         }
+        if let Some(section) = self.sections.iter_mut().find(|s| s.letter == q.section) {
+            section.count(agrees);
+        }
+        self.wrong = self.wrong.saturating_add((!agrees).into());
+        Ok(())
     }
-    Ok(())
-}
-
-// The tally with one vector more.
-fn judged(rt: &impl Print, t: Tally, line: &[u8]) -> io::Result<Tally> {
-    let q = line::asked(line);
-    let bytes = line::frame(line);
-    let found = answer(q, util::part(&bytes, 0, q.length));
-    let agrees = found == q.expected;
-    let section = q.section;
-    show(rt, section, q.kind, line, found)?;
-    complain(rt, t.wrong, agrees, line, found)?;
-    let rust = t.rust;
-    let differences = t.differences;
-    let standard = t.standard;
-    let marked = t.marked;
-    let wrong = std::num::wrapping_add_u64(t.wrong, number::flag(!agrees));
-    let tally = match section {
-        b'R' => Tally {
-            rust: counted(rust, agrees),
-            differences: differences,
-            standard: standard,
-            marked: marked,
-            wrong: wrong,
-        },
-        b'X' => Tally {
-            rust: rust,
-            differences: counted(differences, agrees),
-            standard: standard,
-            marked: marked,
-            wrong: wrong,
-        },
-        b'S' => Tally {
-            rust: rust,
-            differences: differences,
-            standard: counted(standard, agrees),
-            marked: marked,
-            wrong: wrong,
-        },
-        b'M' => Tally {
-            rust: rust,
-            differences: differences,
-            standard: standard,
-            marked: counted(marked, agrees),
-            wrong: wrong,
-        },
-        _ => Tally {
-            rust: rust,
-            differences: differences,
-            standard: standard,
-            marked: marked,
-            wrong: wrong,
-        },
-    };
-    Ok(tally)
 }
 
 // The input ends where fewer bytes than a line's are left.
-fn next_line(rt: &impl Print, input: &mut impl io::Read, t: Tally) -> io::Result<Turn> {
-    let mut bytes = [0u8; 128];
-    match input.read_exact(&mut bytes) {
-        Ok(()) => Ok(Turn {
-            tally: judged(rt, t, &bytes)?,
-            more: true,
-        }),
-        Err(e) if e.kind() == ErrorKind::UnexpectedEof => Ok(Turn {
-            tally: t,
-            more: false,
-        }),
-        Err(e) => Err(e),
-    }
-}
-
-fn replay(rt: &impl Print, input: &mut impl io::Read, start: Tally) -> io::Result<Tally> {
-    let mut tally = start;
-    for _ in 0..100_000u32 {
-        let next = next_line(rt, input, tally)?;
-        tally = next.tally;
-        if !next.more {
-            break;
+fn replay(rt: &impl Print, input: &mut impl io::Read) -> io::Result<Tally> {
+    let mut tally = Tally::new();
+    let mut line = [0u8; 128];
+    for _ in 0..100_000 {
+        match input.read_exact(&mut line) {
+            Err(e) if e.kind() == ErrorKind::UnexpectedEof => break,
+            read => read?,
         }
+        tally.judge(rt, &line)?;
     }
     Ok(tally)
 }
 
-fn report(rt: &impl Print, name: &str, c: Count) -> io::Result<()> {
-    println!(rt; "{name}: {} of {}", c.agree, c.vectors)
-}
-
 fn main(rt: HostRuntime) -> io::Result<()> {
-    let mut input = rt.reader();
-    let t = replay(
-        &rt,
-        &mut input,
-        Tally {
-            rust: none(),
-            differences: none(),
-            standard: none(),
-            marked: none(),
-            wrong: 0,
-        },
-    )?;
-    let rust = t.rust;
-    let differences = t.differences;
-    let standard = t.standard;
-    let marked = t.marked;
-    report(&rt, "the Rust's answers", rust)?;
-    report(&rt, "listed differences from the Rust", differences)?;
-    report(&rt, "frames of the standard", standard)?;
-    report(&rt, "marked rows", marked)?;
-    println!(rt; "wrong: {}", t.wrong)
+    let tally = replay(&rt, &mut rt.reader())?;
+    for section in tally.sections {
+        println!(rt; "{section}")?;
+    }
+    println!(rt; "wrong: {}", tally.wrong)
 }

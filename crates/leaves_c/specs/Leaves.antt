@@ -1,6 +1,6 @@
 -- The leaves' answers as numbers.
 -- Assumes nothing.
-use Rattle.std.specs.Prelude.{ℕ, ◌+◌, ◌*◌, not, List, eqb}
+use Rattle.std.specs.Prelude.{ℕ, ◌+◌, ◌*◌, not, List, eqb, Option, Some, None}
 use Rattle.util.specs.Bytes.{flag_number}
 use Rattle.frame_control.specs.FrameControl.{fields_of, well_formed}
 use Rattle.addressing.specs.declared.AddressingFieldsLengths.{AddressingFieldsLengths}
@@ -9,7 +9,6 @@ use Rattle.header.specs.Header.{info_of}
 use Rattle.filter.specs.Filter.{for_us}
 use Rattle.phy.specs.Phy.{ifs_of, ifs_code}
 use Rattle.ack.specs.Ack.{acknowledges}
-use Rattle.radio_frame.specs.declared.AckSeqNum.{AckSeqNum}
 use Rattle.radio_frame.specs.RadioFrame.{ack_seq_num_of}
 
 -- one byte each, the destination PAN's length in the lowest
@@ -17,9 +16,9 @@ unfoldable pub lengths_number : AddressingFieldsLengths → ℕ
 lengths_number l = l.dst_pan_id + 256 * (l.dst_address + 256 * (l.src_pan_id + 256 * l.src_address))
 
 -- 256 stands for none
-unfoldable pub ack_seq_num_number : AckSeqNum → ℕ
-ack_seq_num_number (AckSeqNum.Is number) = number
-ack_seq_num_number AckSeqNum.None = 256
+unfoldable pub ack_seq_num_number : Option ℕ → ℕ
+ack_seq_num_number (Some number) = number
+ack_seq_num_number None = 256
 
 -- The exported functions.
 abbrev pub is_valid_of : ℕ → ℕ

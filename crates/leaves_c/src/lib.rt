@@ -2,53 +2,37 @@
 #![tactic(auto)]
 
 ghost use Rattle.std.specs.Prelude.{◌≡◌};
-ghost use Rattle.frame_control.specs.FrameControl.{fields_of};
 ghost use Rattle.leaves_c.specs.Leaves.{lengths_number, ack_seq_num_number, is_valid_of, addressing_fields_lengths_of, for_us_of, ack_seq_num_of_frame, is_ack_for_of, from_mpdu_length_of};
 
 use addressing::AddressingFieldsLengths;
 use frame_control::FrameControl;
-use radio_frame::AckSeqNum;
 
-// The fields of a frame control that is given as one number.
-fn fields(control: u16) -> FrameControl
-    ensures { result ≡ fields_of control }
-{
-    let low = (control % 256) as u8;
-    let high = (control / 256 % 256) as u8;
-    frame_control::frame_control(low, high)
-}
-
+#[tactic(auto, unfolding(crate::specs::Leaves::lengths_number))]
 fn lengths_number(l: AddressingFieldsLengths) -> u32
     ensures { result ≡ lengths_number l }
 {
-    let dst_pan_id = l.dst_pan_id as u32;
-    let dst_address = l.dst_address as u32;
-    let src_pan_id = l.src_pan_id as u32;
-    let src_address = l.src_address as u32;
-    dst_pan_id + 256 * (dst_address + 256 * (src_pan_id + 256 * src_address))
+    u32::from_le_bytes([l.dst_pan_id, l.dst_address, l.src_pan_id, l.src_address])
 }
 
-fn ack_seq_num_number(n: AckSeqNum) -> u16
+#[tactic(auto, unfolding(crate::specs::Leaves::ack_seq_num_number))]
+fn ack_seq_num_number(n: Option<u8>) -> u16
     ensures { result ≡ ack_seq_num_number n }
 {
-    match n {
-        AckSeqNum::Is(number) => number as u16,
-        AckSeqNum::None => 256,
-    }
+    n.map_or(256, u16::from)
 }
 
 // Whether a frame control is well formed: 1 or 0.
 pub fn widosha_is_valid(control: u16) -> u8
     ensures { result ≡ is_valid_of control }
 {
-    util::flag_number(frame_control::is_valid(fields(control)))
+    u8::from(FrameControl::from(control).is_valid())
 }
 
 // The lengths of destination PAN, destination, source PAN and source, one byte each, the first in the lowest byte.
 pub fn widosha_addressing_fields_lengths(control: u16) -> u32
     ensures { result ≡ addressing_fields_lengths_of control }
 {
-    lengths_number(addressing::addressing_fields_lengths(fields(control)))
+    lengths_number(addressing::addressing_fields_lengths(FrameControl::from(control)))
 }
 
 // Whether the arrived bytes of a frame say that it is for the station with these settings: 1 or 0. Implicit broadcast is off
@@ -57,7 +41,7 @@ pub fn widosha_is_frame_valid_and_for_us(frame: &[u8], hardware: u64, pan: u16, 
     ensures { result ≡ for_us_of frame.now hardware pan implicit }
 {
     let info = header::preliminary_frame_info(frame);
-    util::flag_number(filter::is_frame_valid_and_for_us(hardware, pan, !(implicit == 0), info))
+    u8::from(filter::is_frame_valid_and_for_us(hardware, pan, implicit != 0, info))
 }
 
 // The number with which a frame wants an acknowledgement, or 256 where it wants none.
@@ -71,12 +55,12 @@ pub fn widosha_ack_seq_num(frame: &[u8]) -> u16
 pub fn widosha_is_ack_for(frame: &[u8], length: u16, number: u8) -> u8
     ensures { result ≡ is_ack_for_of frame.now length number }
 {
-    util::flag_number(ack::is_ack_for(frame, length, number))
+    u8::from(ack::is_ack_for(frame, length, number))
 }
 
 // The spacing after a frame of a length with checksum: 1 short, 2 long.
 pub fn widosha_from_mpdu_length(length: u16) -> u8
     ensures { result ≡ from_mpdu_length_of length }
 {
-    phy::ifs_code(phy::from_mpdu_length(length))
+    u8::from(phy::from_mpdu_length(length))
 }

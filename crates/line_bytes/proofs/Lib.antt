@@ -1,6 +1,3 @@
-pub mod Assembled
-pub mod Put
-pub mod Lines
-pub mod Decodes
+pub mod Loops
 pub mod ReadBack
 pub mod InWords

@@ -1,25 +1,22 @@
 -- Writing a line and reading it gives it back; so bytes are accepted exactly if some line that fits is written as them.
 -- Assumes nothing.
-use Prim.Native.Nat.{ℕ, ◌+◌, ◌^◌, ◌<◌}
+use Prim.Native.Nat.{ℕ, zero, suc, ◌^◌, ◌<◌, ◌≤◌}
 use mathlib.Core.Path.{◌≡◌, refl, ◌∙◌, ap}
 use mathlib.Core.Bool.{Bool, true, false, cond}
-use mathlib.Core.List.{List, ◌++◌}
+use mathlib.Core.List.{List, [], ◌∷◌, ◌++◌}
 use lib.Dec.{eqb}
-use lib.ListN.{get_or}
+use lib.ListN.{get_or, length, drop}
 use native.Mathlib.Omega.{arith}
 use Rattle.util.specs.Bytes.{number_at, AllBytes}
-use Rattle.util.proofs.Numbers.{read_back, byte_at, fits_bytes}
+use Rattle.util.proofs.Numbers.{read_back, byte_at, fits_bytes, drop_bytes}
 use Rattle.tasks.specs.declared.Request.{Request}
 use Rattle.tasks.specs.declared.State.{State}
 use Rattle.tasks.specs.declared.Task.{Task}
 use Rattle.tasks.specs.declared.Timestamp.{Timestamp}
-use Rattle.waiting_line.specs.declared.Line.{Line}
-use Rattle.waiting_line.specs.declared.Line.TheVariants.{Zero, One, Two, Three, Four}
-use Rattle.waiting_line.specs.Line.{requests_of}
 use Rattle.state_bytes.specs.Valid.{same_list}
 use Rattle.state_bytes.proofs.Same.{and_left, and_right, same_true, same_refl}
-use Rattle.line_bytes.specs.Layout.{start_fields, task_fields, record_bytes, written_line, start_at, task_at, request_at, line_at}
-use Rattle.line_bytes.specs.Valid.{line_fits, holds_line, RequestSized, LineSized, LineReadsBack, LinePasses, LineWrittenFrom, LineHeldExactly}
+use Rattle.line_bytes.specs.Layout.{start_fields, task_fields, record_bytes, written_records, written_line, start_at, task_at, request_at, read_records, line_at}
+use Rattle.line_bytes.specs.Valid.{line_fits, holds_line, Every, RequestSized, LineSized, LineReadsBack, LinePasses, LineWrittenFrom, LineHeldExactly}
 
 -- ---- A record
 
@@ -41,7 +38,7 @@ same_request : {token token' time time' length length' : ℕ} (code buffer kind 
     → made token (start_at code time) buffer (task_at kind cca length) ≡ made token' (start_at code time') buffer (task_at kind cca length')
 same_request code buffer kind cca e f g = rw (e, f, g)
 
-record_back : (q : Request) (rest : List ℕ) → RequestSized q → request_at (record_bytes q ++ rest) 0 ≡ q
+record_back : (q : Request) (rest : List ℕ) → RequestSized q → request_at (record_bytes q ++ rest) ≡ q
 unfolding request_at number_at
 record_back q rest F =
     let start = start_fields q.start in
@@ -52,66 +49,30 @@ record_back q rest F =
     ∙ ap (λ (x : Task). made q.token q.start q.buffer x) (task_back q.task)
 
 -- the kind of a record that is not free is not 0
-kind_not_0 : (x y : Line) (task : Task) → cond (eqb (task_fields task).kind 0) x y ≡ y
+kind_not_0 : (x y : List Request) (task : Task) → cond (eqb (task_fields task).kind 0) x y ≡ y
 unfolding task_fields
 kind_not_0 x y (Task.Tx n c) = refl
 kind_not_0 x y Task.Rx = refl
 
--- behind a record the bytes are read as they are without it
-module _ (q : Request) (rest : List ℕ) where
-  behind_0 : request_at (record_bytes q ++ rest) 24 ≡ request_at rest 0
-  unfolding request_at number_at
-  behind_0 = refl
-
-  behind_24 : request_at (record_bytes q ++ rest) 48 ≡ request_at rest 24
-  unfolding request_at number_at
-  behind_24 = refl
-
-  behind_48 : request_at (record_bytes q ++ rest) 72 ≡ request_at rest 48
-  unfolding request_at number_at
-  behind_48 = refl
-
--- so each of the first four records is read back
-module _ (a b : Request) (rest : List ℕ) where
-  second_back : RequestSized b → request_at (record_bytes a ++ record_bytes b ++ rest) 24 ≡ b
-  second_back F = behind_0 a (record_bytes b ++ rest) ∙ record_back b rest F
-
-  module _ (c : Request) where
-    third_back : RequestSized b → request_at (record_bytes c ++ record_bytes a ++ record_bytes b ++ rest) 48 ≡ b
-    third_back F = behind_24 c (record_bytes a ++ record_bytes b ++ rest) ∙ second_back F
-
-    fourth_back : (d : Request) → RequestSized b → request_at (record_bytes d ++ record_bytes c ++ record_bytes a ++ record_bytes b ++ rest) 72 ≡ b
-    fourth_back d F = behind_48 d (record_bytes c ++ record_bytes a ++ record_bytes b ++ rest) ∙ third_back F
-
-two_same : {a a' b b' : Request} → a ≡ a' → b ≡ b' → Two a b ≡ Two a' b'
-two_same e f = rw (e, f)
-
-three_same : {a a' b b' c c' : Request} → a ≡ a' → b ≡ b' → c ≡ c' → Three a b c ≡ Three a' b' c'
-three_same e f g = rw (e, f, g)
-
-four_same : {a a' b b' c c' d d' : Request} → a ≡ a' → b ≡ b' → c ≡ c' → d ≡ d' → Four a b c d ≡ Four a' b' c' d'
-four_same e f g h = rw (e, f, g, h)
+records_back : (n : ℕ) (qs : List Request) → length qs ≤ n → Every RequestSized qs → read_records n (written_records n qs) ≡ qs
+unfolding read_records
+records_back zero [] h F = refl
+records_back zero (q ∷ qs) h F = absurd (omega arith)
+records_back (suc n) [] h F = refl
+records_back (suc n) (q ∷ qs) h F =
+    kind_not_0 _ _ q.task
+    ∙ ap (λ (r : Request). r ∷ read_records n (written_records n qs)) (record_back q (written_records n qs) F.0)
+    ∙ ap (λ (rs : List Request). q ∷ rs) (records_back n qs (omega arith) F.1)
 
 -- ---- The laws
 
 pub line_reads_back : LineReadsBack
 unfolding line_at written_line
-line_reads_back Zero F = refl
-line_reads_back (One a) F =
-    kind_not_0 _ _ a.task ∙ ap (λ (x : Request). One x) (record_back a _ F.0)
-line_reads_back (Two a b) F =
-    kind_not_0 _ _ a.task ∙ kind_not_0 _ _ b.task
-    ∙ two_same (record_back a _ F.0) (second_back a b _ F.1.0)
-line_reads_back (Three a b c) F =
-    kind_not_0 _ _ a.task ∙ kind_not_0 _ _ b.task ∙ kind_not_0 _ _ c.task
-    ∙ three_same (record_back a _ F.0) (second_back a b _ F.1.0) (third_back b c _ a F.1.1.0)
-line_reads_back (Four a b c d) F =
-    kind_not_0 _ _ a.task ∙ kind_not_0 _ _ b.task ∙ kind_not_0 _ _ c.task ∙ kind_not_0 _ _ d.task
-    ∙ four_same (record_back a _ F.0) (second_back a b _ F.1.0) (third_back b c _ a F.1.1.0) (fourth_back c d _ b a F.1.1.1.0)
+line_reads_back l F = records_back 4 l F.0 F.1
 
 pub line_passes : LinePasses
 unfolding holds_line
-line_passes s l F f = simp (line_reads_back l F, f, same_refl (written_line (requests_of l)))
+line_passes s l F f = simp (line_reads_back l F, f, same_refl (written_line l))
 
 -- ---- What bytes are read as fits its widths
 
@@ -131,52 +92,44 @@ task_sized kind cca length h = go (eqb kind 1)
     go true = h
     go false = omega arith
 
-one_of : (z : Bool) (l m : Line) → LineSized l → LineSized m → LineSized (cond z l m)
-one_of true l m F G = F
-one_of false l m F G = G
+request_sized : (bytes : List ℕ) → AllBytes bytes → RequestSized (request_at bytes)
+unfolding request_at
+request_sized bytes A =
+    record {
+      token = fits_bytes bytes A 4 4;
+      time = start_sized (get_or bytes 1 0) (number_at bytes 8 8) (fits_bytes bytes A 8 8);
+      buffer = byte_at bytes A 3;
+      length = task_sized (get_or bytes 0 0) (get_or bytes 2 0) (number_at bytes 16 2) (fits_bytes bytes A 16 2);
+    }
 
-module _ (bytes : List ℕ) (A : AllBytes bytes) where
-  request_sized : (at : ℕ) → RequestSized (request_at bytes at)
-  unfolding request_at
-  request_sized at =
-      record {
-        token = fits_bytes bytes A (at + 4) 4;
-        time = start_sized (get_or bytes (at + 1) 0) (number_at bytes (at + 8) 8) (fits_bytes bytes A (at + 8) 8);
-        buffer = byte_at bytes A (at + 3);
-        length = task_sized (get_or bytes at 0) (get_or bytes (at + 2) 0) (number_at bytes (at + 16) 2) (fits_bytes bytes A (at + 16) 2);
-      }
+sized : (n : ℕ) (bytes : List ℕ) → AllBytes bytes → (length (read_records n bytes) ≤ n) × Every RequestSized (read_records n bytes)
+unfolding read_records
+sized zero bytes A = (omega arith, tt)
+sized (suc n) bytes A = go _ (sized n (drop 24 bytes) (drop_bytes 24 bytes A))
+  where
+    rest : List Request
+    rest = read_records n (drop 24 bytes)
 
-  line_sized : LineSized (line_at bytes)
-  unfolding line_at
-  line_sized =
-      let at : ℕ → Request = λ n. request_at bytes n in
-      let one = One (at 0) in
-      let two = Two (at 0) (at 24) in
-      let three = Three (at 0) (at 24) (at 48) in
-      let four = Four (at 0) (at 24) (at 48) (at 72) in
-      let a = request_sized 0 in
-      let b = request_sized 24 in
-      let c = request_sized 48 in
-      let d = request_sized 72 in
-      let past_two = cond (eqb (get_or bytes 72 0) 0) three four in
-      let past_one = cond (eqb (get_or bytes 48 0) 0) two past_two in
-      let past-none = cond (eqb (get_or bytes 24 0) 0) one past_one in
-      one_of (eqb (get_or bytes 0 0) 0) Zero past-none tt
-      (one_of (eqb (get_or bytes 24 0) 0) one past_one (a, tt)
-      (one_of (eqb (get_or bytes 48 0) 0) two past_two (a, (b, tt))
-      (one_of (eqb (get_or bytes 72 0) 0) three four (a, (b, (c, tt))) (a, (b, (c, (d, tt)))))))
+    go : (z : Bool) → (length rest ≤ n) × Every RequestSized rest
+        → (length (cond z [] (request_at bytes ∷ rest)) ≤ suc n) × Every RequestSized (cond z [] (request_at bytes ∷ rest))
+    go true h = (omega arith, tt)
+    go false h = (omega (arith, h.0), (request_sized bytes A, h.1))
+
+line_sized : (bytes : List ℕ) → AllBytes bytes → LineSized (line_at bytes)
+unfolding line_at
+line_sized bytes A = sized 4 bytes A
 
 read_from : (s : State) (bytes : List ℕ) → AllBytes bytes → holds_line s bytes ≡ true → LineWrittenFrom s bytes
 unfolding holds_line
 read_from s bytes A h =
     let l = line_at bytes in
-    let fits = line_fits s (requests_of l) in
-    let written = same_list (written_line (requests_of l)) bytes in
+    let fits = line_fits s l in
+    let written = same_list (written_line l) bytes in
     record {
       line = l;
       sized = line_sized bytes A;
       fits = and_left fits written h;
-      written = same_true (written_line (requests_of l)) bytes (and_right fits written h);
+      written = same_true (written_line l) bytes (and_right fits written h);
     }
 
 pub line_held_exactly : LineHeldExactly

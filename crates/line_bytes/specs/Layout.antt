@@ -1,12 +1,10 @@
 -- The line's 96 bytes: docs/LAYOUTS.md, "The line's 96 bytes".
 -- Assumes nothing.
-use Rattle.std.specs.Prelude.{ℕ, zero, suc, ◌+◌, cond, List, [], ◌∷◌, ◌++◌, leb, eqb, length, take, drop, replicate}
+use Rattle.std.specs.Prelude.{ℕ, zero, suc, cond, List, [], ◌∷◌, ◌++◌, eqb, drop, replicate}
 use Rattle.util.specs.Bytes.{flag_number, number_at, bytes_of}
 use Rattle.tasks.specs.declared.Request.{Request}
 use Rattle.tasks.specs.declared.Task.{Task}
 use Rattle.tasks.specs.declared.Timestamp.{Timestamp}
-use Rattle.waiting_line.specs.declared.Line.{Line}
-use Rattle.waiting_line.specs.declared.Line.TheVariants.{Zero, One, Two, Three, Four}
 use Rattle.state_bytes.specs.Layout.{byte_at}
 use Rattle.line_bytes.specs.declared.StartFields.{StartFields}
 use Rattle.line_bytes.specs.declared.TaskFields.{TaskFields}
@@ -49,10 +47,6 @@ written_records (suc n) (q ∷ qs) = record_bytes q ++ written_records n qs
 unfoldable pub written_line : List Request → List ℕ
 written_line qs = written_records 4 qs
 
--- how the code writes it: a record's bytes over those from a place on, where there is room for them
-unfoldable pub put_at : ℕ → List ℕ → List ℕ → List ℕ
-put_at at new old = cond (leb (at + 24) (length old)) (take at old ++ (new ++ drop (at + 24) old)) old
-
 -- ---- The same table, read. A code that stands for nothing is read as the last of its kind; what is written for that has another code,
 -- so such bytes are not those of any line.
 
@@ -62,20 +56,20 @@ start_at code time = cond (eqb code 0) Timestamp.BestEffort (Timestamp.Scheduled
 unfoldable pub task_at : ℕ → ℕ → ℕ → Task
 task_at kind cca length = cond (eqb kind 1) (Task.Tx length (eqb cca 1)) Task.Rx
 
-unfoldable pub request_at : List ℕ → ℕ → Request
-request_at bytes at =
+-- the request of the record that bytes begin with
+unfoldable pub request_at : List ℕ → Request
+request_at bytes =
     record {
-      token = number_at bytes (at + 4) 4;
-      start = start_at (byte_at bytes (at + 1)) (number_at bytes (at + 8) 8);
-      buffer = byte_at bytes (at + 3);
-      task = task_at (byte_at bytes at) (byte_at bytes (at + 2)) (number_at bytes (at + 16) 2);
+      token = number_at bytes 4 4;
+      start = start_at (byte_at bytes 1) (number_at bytes 8 8);
+      buffer = byte_at bytes 3;
+      task = task_at (byte_at bytes 0) (byte_at bytes 2) (number_at bytes 16 2);
     }
 
--- the records before the first one that is free: what stands behind a gap is not read, and so not what is written for the line
-unfoldable pub line_at : List ℕ → Line
-line_at bytes =
-    cond (eqb (byte_at bytes 0) 0) Zero
-    (cond (eqb (byte_at bytes 24) 0) (One (request_at bytes 0))
-    (cond (eqb (byte_at bytes 48) 0) (Two (request_at bytes 0) (request_at bytes 24))
-    (cond (eqb (byte_at bytes 72) 0) (Three (request_at bytes 0) (request_at bytes 24) (request_at bytes 48))
-    (Four (request_at bytes 0) (request_at bytes 24) (request_at bytes 48) (request_at bytes 72)))))
+-- n records, before the first one that is free: what stands behind a gap is not read, and so not what is written for the line
+unfoldable pub read_records : ℕ → List ℕ → List Request
+read_records zero bytes = []
+read_records (suc n) bytes = cond (eqb (byte_at bytes 0) 0) [] (request_at bytes ∷ read_records n (drop 24 bytes))
+
+unfoldable pub line_at : List ℕ → List Request
+line_at bytes = read_records 4 bytes

@@ -1,14 +1,12 @@
 -- Which bytes are a line's, in a state: document 02, E1, refusal 1.
 -- Assumes nothing.
-use Rattle.std.specs.Prelude.{ℕ, ◌^◌, ◌<◌, ◌≡◌, ◌↔◌, ◌≢◌, Bool, true, false, cond, ◌&&◌, List, [], ◌∷◌, eqb}
+use Rattle.std.specs.Prelude.{ℕ, ◌^◌, ◌<◌, ◌≤◌, ◌≡◌, ◌↔◌, ◌≢◌, Bool, true, false, cond, ◌&&◌, List, [], ◌∷◌, eqb, length, Option, Some, None}
 use Rattle.util.specs.Bytes.{AllBytes}
 use Rattle.tasks.specs.declared.Request.{Request}
 use Rattle.tasks.specs.declared.State.{State}
 use Rattle.requests.specs.Requests.{token_held, buffer_held, tx_length_unfit, arrival_refusal}
-use Rattle.waiting_line.specs.declared.Line.{Line}
-use Rattle.waiting_line.specs.Line.{requests_of, any_passes, has_token, has_buffer}
+use Rattle.waiting_line.specs.Line.{any_passes, has_token, has_buffer}
 use Rattle.state_bytes.specs.Valid.{same_list}
-use Rattle.line_bytes.specs.declared.DecodedLine.{DecodedLine}
 use Rattle.line_bytes.specs.Layout.{start_fields, task_fields, written_line, line_at}
 
 -- ---- "Tx lengths pass 8, buffers are in range and, like tokens, all different over state and line"
@@ -26,18 +24,18 @@ line_fits s (q ∷ qs) = request_fits s q qs && line_fits s qs
 
 -- the bytes read as a line that fits, and that line is written as them
 unfoldable pub holds_line : State → List ℕ → Bool
-holds_line s bytes = line_fits s (requests_of (line_at bytes)) && same_list (written_line (requests_of (line_at bytes))) bytes
+holds_line s bytes = line_fits s (line_at bytes) && same_list (written_line (line_at bytes)) bytes
 
-unfoldable pub decoded_line_of : State → List ℕ → DecodedLine
-decoded_line_of s bytes = cond (holds_line s bytes) (DecodedLine.Valid (line_at bytes)) DecodedLine.Invalid
+unfoldable pub decoded_line_of : State → List ℕ → Option (List Request)
+decoded_line_of s bytes = cond (holds_line s bytes) (Some (line_at bytes)) None
 
 -- the refusal number of each case
-unfoldable pub decoded_line_refusal : DecodedLine → ℕ
-decoded_line_refusal (DecodedLine.Valid l) = 0
-decoded_line_refusal DecodedLine.Invalid = 1
+unfoldable pub decoded_line_refusal : Option (List Request) → ℕ
+decoded_line_refusal (Some l) = 0
+decoded_line_refusal None = 1
 
 -- what decode answers: the case, and the document's number for it
-pub record DecodesLine (s : State) (bytes : List ℕ) (r : DecodedLine) : Type 0 where
+pub record DecodesLine (s : State) (bytes : List ℕ) (r : Option (List Request)) : Type 0 where
   pub case : r ≡ decoded_line_of s bytes
   pub refusal : decoded_line_refusal r ≡ cond (holds_line s bytes) 0 1
 
@@ -55,27 +53,28 @@ pub record RequestSized (q : Request) : Type 0 where
   pub buffer : q.buffer < 2 ^ 8
   pub length : (task_fields q.task).length < 2 ^ 16
 
-abbrev pub LineSized : Line → Type 0
-LineSized l = Every RequestSized (requests_of l)
+-- .. and of a line, which has at most four requests
+abbrev pub LineSized : List Request → Type 0
+LineSized l = (length l ≤ 4) × Every RequestSized l
 
 -- writing a line and reading the bytes gives the line back; so two lines with the same bytes are the same
 abbrev pub LineReadsBack : Type 0
-LineReadsBack = (l : Line) → LineSized l → line_at (written_line (requests_of l)) ≡ l
+LineReadsBack = (l : List Request) → LineSized l → line_at (written_line l) ≡ l
 
 -- a line that fits is held by its bytes
 abbrev pub LinePasses : Type 0
 LinePasses =
-    (s : State) (l : Line) →
+    (s : State) (l : List Request) →
     LineSized l →
-    line_fits s (requests_of l) ≡ true →
-    holds_line s (written_line (requests_of l)) ≡ true
+    line_fits s l ≡ true →
+    holds_line s (written_line l) ≡ true
 
 -- bytes that some line that fits is written as
 pub record LineWrittenFrom (s : State) (bytes : List ℕ) : Type 0 where
-  pub line : Line
+  pub line : List Request
   pub sized : LineSized line
-  pub fits : line_fits s (requests_of line) ≡ true
-  pub written : written_line (requests_of line) ≡ bytes
+  pub fits : line_fits s line ≡ true
+  pub written : written_line line ≡ bytes
 
 -- bytes are accepted exactly if some line that fits is written as them
 abbrev pub LineHeldExactly : Type 0

@@ -1,21 +1,13 @@
 // The waiting line as 96 bytes (docs/LAYOUTS.md): writing it, and reading it where the bytes are those of a line that fits the state.
 #![tactic(auto)]
 
-ghost use Rattle.std.specs.Prelude.{◌<◌, ◌≡◌, []};
-ghost use Rattle.waiting_line.specs.Line.{requests_of};
+ghost use Rattle.std.specs.Prelude.{◌≡◌, drop};
 ghost use Rattle.state_bytes.specs.Valid.{same_list};
-ghost use Rattle.line_bytes.specs.Layout.{start_fields, task_fields, record_bytes, put_at, written_line, start_at, task_at, request_at, line_at};
+ghost use Rattle.line_bytes.specs.Layout.{start_fields, task_fields, record_bytes, written_line, start_at, task_at, request_at, line_at};
 ghost use Rattle.line_bytes.specs.Valid.{request_fits, line_fits, DecodesLine};
 
 use tasks::{Request, State, Task, Timestamp};
-use waiting_line::Line;
-
-// What bytes are read as: a line, or that no line that fits the state is written so (refusal 1).
-#[derive(Clone, Copy)]
-pub enum DecodedLine {
-    Valid(Line),
-    Invalid,
-}
+use waiting_line::{DRIVER_CHANNEL_CAPACITY, Line};
 
 // A start as numbers.
 #[derive(Clone, Copy)]
@@ -34,6 +26,7 @@ pub struct TaskFields {
 
 // ---- Writing
 
+#[tactic(auto, unfolding(crate::specs::Layout::start_fields))]
 fn start_fields(start: Timestamp) -> StartFields
     ensures { result ≡ start_fields start }
 {
@@ -43,13 +36,14 @@ fn start_fields(start: Timestamp) -> StartFields
     }
 }
 
+#[tactic(auto, unfolding(crate::specs::Layout::task_fields))]
 fn task_fields(task: Task) -> TaskFields
     ensures { result ≡ task_fields task }
 {
     match task {
         Task::Tx(n, c) => TaskFields {
             kind: 1,
-            cca: util::flag_number(c),
+            cca: u8::from(c),
             length: n,
         },
         Task::Rx => TaskFields {
@@ -63,10 +57,8 @@ fn task_fields(task: Task) -> TaskFields
 fn record_bytes(q: Request) -> [u8; 24]
     ensures { result ≡ record_bytes q }
 {
-    let its_start = q.start;
-    let its_task = q.task;
-    let start = start_fields(its_start);
-    let task = task_fields(its_task);
+    let start = start_fields(q.start);
+    let task = task_fields(q.task);
     let token = util::bytes_of_u32(q.token);
     let time = util::bytes_of_u64(start.time);
     let length = util::bytes_of_u16(task.length);
@@ -77,50 +69,22 @@ fn record_bytes(q: Request) -> [u8; 24]
     ]
 }
 
-// Writes the record of a request at a place, where there is room for it.
-fn put_record(line: &mut [u8], at: usize, q: Request)
-    requires { at < 96 }
-    ensures { line.new ≡ put_at at (record_bytes q) line.old }
-{
-    let written = record_bytes(q);
-    let end = at + 24;
-    if end <= line.len() {
-        util::store(&written, &mut line[at..end]);
-    }
-}
-
 // The bytes that a line is written as.
-pub fn encode(l: Line) -> [u8; 96]
-    ensures { result ≡ written_line (requests_of l) }
+pub fn encode(line: &Line) -> [u8; 96]
+    ensures { result ≡ written_line line.now }
 {
-    let mut line = [0; 96];
-    match l {
-        Line::Zero => {}
-        Line::One(a) => {
-            put_record(&mut line, 0, a);
-        }
-        Line::Two(a, b) => {
-            put_record(&mut line, 0, a);
-            put_record(&mut line, 24, b);
-        }
-        Line::Three(a, b, c) => {
-            put_record(&mut line, 0, a);
-            put_record(&mut line, 24, b);
-            put_record(&mut line, 48, c);
-        }
-        Line::Four(a, b, c, d) => {
-            put_record(&mut line, 0, a);
-            put_record(&mut line, 24, b);
-            put_record(&mut line, 48, c);
-            put_record(&mut line, 72, d);
-        }
+    let mut bytes = [0; 96];
+    for (i, q) in line.requests().iter().enumerate() {
+        let at = 24 * i;
+        bytes[at..at + 24].copy_from_slice(&record_bytes(*q));
     }
-    line
+    bytes
 }
 
 // ---- Reading
 
 // A code that stands for nothing is read as the last of its kind.
+#[tactic(auto, unfolding(crate::specs::Layout::start_at))]
 fn start_at(code: u8, time: u64) -> Timestamp
     ensures { result ≡ start_at code time }
 {
@@ -131,6 +95,7 @@ fn start_at(code: u8, time: u64) -> Timestamp
     }
 }
 
+#[tactic(auto, unfolding(crate::specs::Layout::task_at))]
 fn task_at(kind: u8, cca: u8, length: u16) -> Task
     ensures { result ≡ task_at kind cca length }
 {
@@ -141,133 +106,87 @@ fn task_at(kind: u8, cca: u8, length: u16) -> Task
     }
 }
 
-// The request of the record from a place on.
-fn request_at(bytes: &[u8], at: usize) -> Request
-    requires { at < 96 }
-    ensures { result ≡ request_at bytes.now at }
+// The request of the record that the bytes begin with.
+#[tactic(auto, unfolding(crate::specs::Layout::request_at))]
+fn request_at(bytes: &[u8]) -> Request
+    ensures { result ≡ request_at bytes.now }
 {
-    let start = start_at(util::byte_at(bytes, at + 1), util::u64_at(bytes, at + 8));
+    let start = start_at(util::byte_at(bytes, 1), util::u64_at(bytes, 8));
     let task = task_at(
-        util::byte_at(bytes, at),
-        util::byte_at(bytes, at + 2),
-        util::u16_at(bytes, at + 16),
+        util::byte_at(bytes, 0),
+        util::byte_at(bytes, 2),
+        util::u16_at(bytes, 16),
     );
     Request {
-        token: util::u32_at(bytes, at + 4),
-        start: start,
-        buffer: util::byte_at(bytes, at + 3),
-        task: task,
+        token: util::u32_at(bytes, 4),
+        start,
+        buffer: util::byte_at(bytes, 3),
+        task,
     }
+}
+
+// The bytes behind the record that these begin with.
+#[tactic(auto, using(std::proofs::lemmas::List::take_rest, std::proofs::lemmas::List::drop_min))]
+fn behind_record(bytes: &[u8]) -> &[u8]
+    ensures { result.now ≡ drop 24 bytes.now }
+{
+    &bytes[bytes.len().min(24)..]
 }
 
 // The requests of the records before the first one that is free.
 fn line_at(bytes: &[u8]) -> Line
     ensures { result ≡ line_at bytes.now }
 {
-    if util::byte_at(bytes, 0) == 0 {
-        return Line::Zero;
+    let mut line = Line::new();
+    let mut rest = bytes;
+    for i in 0..DRIVER_CHANNEL_CAPACITY {
+        if util::byte_at(rest, 0) == 0 {
+            break;
+        }
+        line.push(request_at(rest));
+        rest = behind_record(rest);
     }
-    let a = request_at(bytes, 0);
-    if util::byte_at(bytes, 24) == 0 {
-        return Line::One(a);
-    }
-    let b = request_at(bytes, 24);
-    if util::byte_at(bytes, 48) == 0 {
-        return Line::Two(a, b);
-    }
-    let c = request_at(bytes, 48);
-    if util::byte_at(bytes, 72) == 0 {
-        return Line::Three(a, b, c);
-    }
-    let d = request_at(bytes, 72);
-    Line::Four(a, b, c, d)
+    line
 }
 
 // ---- Which bytes are those of a line that fits the state
 
 // A request passes what an arrival has to pass, with those behind it in the line.
-fn request_fits(s: State, q: Request, behind: Line) -> bool
-    ensures { result ≡ request_fits s q (requests_of behind) }
+#[tactic(auto, unfolding(crate::specs::Valid::request_fits))]
+fn request_fits(s: State, q: Request, behind: &[Request]) -> bool
+    ensures { result ≡ request_fits s q behind.now }
 {
     let buffer = waiting_line::has_buffer(behind, q.buffer);
     let token = waiting_line::has_token(behind, q.token);
-    requests::arrival_refusal(s, q, buffer, false, token) == 0
+    requests::check_arrival(s, q, buffer, false, token).is_ok()
 }
 
-fn line_fits(s: State, l: Line) -> bool
-    ensures { result ≡ line_fits s (requests_of l) }
+#[tactic(auto, unfolding(crate::specs::Valid::line_fits))]
+fn line_fits(s: State, requests: &[Request]) -> bool
+    ensures { result ≡ line_fits s requests.now }
 {
-    match l {
-        Line::Zero => true,
-        Line::One(a) => request_fits(s, a, Line::Zero),
-        Line::Two(a, b) => util::both(
-            request_fits(s, a, Line::One(b)),
-            request_fits(s, b, Line::Zero),
-        ),
-        Line::Three(a, b, c) => util::both(
-            request_fits(s, a, Line::Two(b, c)),
-            util::both(
-                request_fits(s, b, Line::One(c)),
-                request_fits(s, c, Line::Zero),
-            ),
-        ),
-        Line::Four(a, b, c, d) => util::both(
-            request_fits(s, a, Line::Three(b, c, d)),
-            util::both(
-                request_fits(s, b, Line::Two(c, d)),
-                util::both(
-                    request_fits(s, c, Line::One(d)),
-                    request_fits(s, d, Line::Zero),
-                ),
-            ),
-        ),
+    match requests.split_first() {
+        Some((q, behind)) => request_fits(s, *q, behind) && line_fits(s, behind),
+        None => true,
     }
 }
 
-// Whether two byte strings are the same. All bytes are looked at, whatever the first ones say: so the loop can take many at once.
-fn is_same(a: &[u8], b: &[u8]) -> bool
-    ensures { result ≡ same_list a.now b.now }
+#[tactic(auto, using(crate::proofs::Loops::pointwise_same))]
+fn is_written_as(bytes: &[u8], line: &Line) -> bool
+    ensures { result ≡ same_list (written_line line.now) bytes.now }
 {
-    if a.len() != b.len() {
-        return false;
-    }
-    let mut same = true;
-    let mut i = 0;
-    while i < a.len() {
-        same = util::both(same, a[i] == b[i]);
-        i = i + 1;
-    }
-    same
+    encode(line).as_slice() == bytes
 }
 
-// A line without requests, which is the usual one, on a way of its own: it costs little.
-fn is_all_free(bytes: &[u8]) -> bool
-    ensures { result ≡ same_list (written_line []) bytes.now }
+// The line that bytes are written as, if it fits the state; of other bytes (refusal 1) none.
+#[tactic(auto, unfolding(crate::specs::Valid::holds_line, crate::specs::Valid::decoded_line_of, crate::specs::Valid::decoded_line_refusal))]
+pub fn decode(s: State, bytes: &[u8]) -> Option<Line>
+    ensures { DecodesLine s bytes.now result }
 {
-    let written = [0; 96];
-    is_same(&written, bytes)
-}
-
-fn is_written_as(bytes: &[u8], l: Line) -> bool
-    ensures { result ≡ same_list (written_line (requests_of l)) bytes.now }
-{
-    match l {
-        Line::Zero => is_all_free(bytes),
-        _ => {
-            let written = encode(l);
-            is_same(&written, bytes)
-        }
-    }
-}
-
-// The line that bytes are written as, if it fits the state.
-pub fn decode(s: State, line: &[u8]) -> DecodedLine
-    ensures { DecodesLine s line.now result }
-{
-    let l = line_at(line);
-    if util::both(line_fits(s, l), is_written_as(line, l)) {
-        DecodedLine::Valid(l)
+    let line = line_at(bytes);
+    if line_fits(s, line.requests()) && is_written_as(bytes, &line) {
+        Some(line)
     } else {
-        DecodedLine::Invalid
+        None
     }
 }

@@ -2,11 +2,14 @@
 #![tactic(auto)]
 
 ghost use Rattle.std.specs.Prelude.{◌≡◌};
+ghost use Rattle.moves.specs.Move.{told};
 ghost use Rattle.listening.specs.Listening.{stop_before, listening_of};
 
-use moves::Move;
+use moves::Accepted;
+use refusals::Refusal;
 use tasks::{Call, RxTask, State, Stop, StopListening, Timestamp};
 
+#[tactic(auto, unfolding(crate::specs::Listening::stop_before))]
 fn stop_before(start: Timestamp, cca: bool) -> StopListening
     ensures { result ≡ stop_before cca start }
 {
@@ -17,13 +20,13 @@ fn stop_before(start: Timestamp, cca: bool) -> StopListening
 }
 
 // A call while listening: FrameStart or OutboundSeen.
-pub fn listening(s: State, q: RxTask, c: Call) -> Move
-    ensures { result ≡ listening_of s q c }
+#[tactic(auto, unfolding(crate::specs::Listening::listening_of))]
+pub fn listening(s: State, q: RxTask, c: Call) -> Result<Accepted, Refusal>
+    ensures { told s result ≡ listening_of s q c }
 {
-    let set = s.set;
     match c {
-        Call::FrameStart => moves::stop(set, Stop::Frame(q), StopListening::Now),
-        Call::OutboundSeen(t, f) => moves::stop(set, Stop::Outbound(q), stop_before(t, f)),
-        _ => moves::refused(s, 5),
+        Call::FrameStart => Ok(moves::stop(s.set, Stop::Frame(q), StopListening::Now)),
+        Call::OutboundSeen(t, f) => Ok(moves::stop(s.set, Stop::Outbound(q), stop_before(t, f))),
+        _ => Err(Refusal::Unfit),
     }
 }

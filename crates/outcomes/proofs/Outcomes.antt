@@ -1,5 +1,7 @@
 -- From what the parts of a call or a start ensure to its outcome; over plain values.
 -- Assumes nothing.
+use Rattle.std.proofs.Common.{Some, None}
+use Rattle.std.proofs.lemmas.Option.{none-some}
 use Prim.Native.Nat.{ℕ, ◌<◌, ◌≤◌}
 use mathlib.Core.Path.{◌≡◌, refl, sym, ◌∙◌}
 use mathlib.Core.Bool.{Bool, true, false, cond, not, ◌||◌}
@@ -14,7 +16,7 @@ use Rattle.tasks.specs.declared.Call.{Call}
 use Rattle.tasks.specs.declared.State.{State}
 use Rattle.tasks.specs.declared.Wait.{Wait}
 use Rattle.moves.specs.Move.{refused_of, guarded_of}
-use Rattle.engine.specs.declared.Outcome.{Outcome}
+use Rattle.engine.specs.Step.{Outcome}
 use Rattle.engine.specs.Step.{outcome_of, step_of, start_of, start_pool}
 use Rattle.driver.specs.Promises.{Stepped, Started}
 use Rattle.engine.specs.Refusals.{fits, later_refusal, refusal_of, InOrder, RefusedUnchanged}
@@ -24,17 +26,26 @@ use Rattle.call_codes.specs.declared.StartNumbers.{StartNumbers}
 use Rattle.call_codes.specs.Codes.{known_flag, known_of, call_of, settings_of}
 use Rattle.outcomes.specs.Outcomes.{or_five, unknown_of, made_outcome, made_pool, unknown_start, begun_outcome, begun_pool}
 
+-- an Option made by a test says what the test is
+there : {c d : Call} (known : Bool) → Some c ≡ cond known (Some d) None → (known ≡ true) × (c ≡ d)
+there true e = (refl, cc)
+there false e = absurd (none-some _ (sym e))
+
+missing : (d : Call) (known : Bool) → None ≡ cond known (Some d) None → known ≡ false
+missing d true e = absurd (none-some _ e)
+missing d false e = refl
+
 -- ---- A call
 module _ (s : State) (po : List ℕ) (x : ExportedCall) where
-  pub made_known : (known : Bool) → known ≡ known_of x → known ≡ true → (c : Call) → c ≡ call_of x → (r : Outcome) (po' : List ℕ) → Stepped s po c r po'
+  pub made_known : (c : Call) → Some c ≡ cond (known_of x) (Some (call_of x)) None → (r : Outcome) (po' : List ℕ) → Stepped s po c r po'
       → (r ≡ made_outcome s po x) × (po' ≡ made_pool s po x)
   unfolding made_outcome made_pool
-  made_known known k t c e r po' S = (S.returns ∙ rw (← k, t, e), S.writes ∙ rw (← k, t, e))
+  made_known c k r po' S = let t = there (known_of x) k in (S.returns ∙ rw (t.0, t.1), S.writes ∙ rw (t.0, t.1))
 
-  pub made_unknown : (known : Bool) → known ≡ known_of x → known ≡ false → (r : Outcome) → r ≡ unknown_of s (length po)
+  pub made_unknown : None ≡ cond (known_of x) (Some (call_of x)) None → (r : Outcome) → r ≡ unknown_of s (length po)
       → (r ≡ made_outcome s po x) × (po ≡ made_pool s po x)
   unfolding made_outcome made_pool
-  made_unknown known k t r e = (e ∙ rw (← k, t), rw (← k, t))
+  made_unknown k r e = let t = missing _ (known_of x) k in (e ∙ rw t, rw t)
 
   -- refused, it leaves state and pool; its refusal is the first of the list
   pub made_unchanged : ((made_outcome s po x).refusal ≡ 0 → ⊥) → ((made_outcome s po x).state ≡ s) × (made_pool s po x ≡ po)
@@ -61,28 +72,6 @@ module _ (s : State) (po : List ℕ) (x : ExportedCall) where
           ≡ cond (pool_unfit s.set (length po)) 2 (cond (rooms_unfit s.set) 3 (cond (own_buffers_unfit s.set) 4 (cond (not t || not (fits (call_of x) s.wait)) 5 (later_refusal s (call_of x)))))
       go true = in_order s po (call_of x)
       go false = five_after (pool_unfit s.set (length po)) (rooms_unfit s.set) (own_buffers_unfit s.set)
-
--- ---- Codes that stand for nothing
-abbrev pub idle_state : Settings → State
-idle_state set = record { set = set; wait = Wait.Asking Asked.Idle }
-
-module _ (s : State) (k pool : ℕ) (e : k ≡ settings_refusal s.set pool) where
-  pub five : (o : Outcome) → o ≡ outcome_of (refused_of s 5) → k ≡ 0 → o ≡ unknown_of s pool
-  unfolding unknown_of
-  five o p t = p ∙ simp (eq-eqb (settings_refusal s.set pool) 0 (sym e ∙ t))
-
-  pub earlier : (o : Outcome) → o ≡ outcome_of (refused_of s k) → (k ≡ 0 → ⊥) → o ≡ unknown_of s pool
-  unfolding unknown_of
-  earlier o p t = p ∙ simp (e, ne_eqb (settings_refusal s.set pool) 0 (λ z. t (e ∙ z)))
-
-module _ (set : Settings) (k pool : ℕ) (e : k ≡ settings_refusal set pool) where
-  pub two : (o : Outcome) → o ≡ outcome_of (refused_of (idle_state set) 2) → k ≡ 2 → o ≡ unknown_start set pool
-  unfolding unknown_start
-  two o p t = p ∙ simp (eq-eqb (settings_refusal set pool) 2 (sym e ∙ t))
-
-  pub three : (o : Outcome) → o ≡ outcome_of (refused_of (idle_state set) 3) → (k ≡ 2 → ⊥) → o ≡ unknown_start set pool
-  unfolding unknown_start
-  three o p t = p ∙ simp (ne_eqb (settings_refusal set pool) 2 (λ z. t (e ∙ z)))
 
 -- ---- A start
 module _ (n : StartNumbers) (po : List ℕ) where

@@ -8,7 +8,7 @@ use Rattle.tasks.specs.declared.Asked.{Asked}
 use Rattle.tasks.specs.declared.State.{State}
 use Rattle.tasks.specs.declared.Wait.{Wait}
 use Rattle.moves.specs.Move.{refused_of}
-use Rattle.engine.specs.declared.Outcome.{Outcome}
+use Rattle.engine.specs.Step.{Outcome}
 use Rattle.engine.specs.Step.{outcome_of, step_of, step_pool, start_of, start_pool}
 use Rattle.call_codes.specs.declared.ExportedCall.{ExportedCall}
 use Rattle.call_codes.specs.declared.StartNumbers.{StartNumbers}

@@ -2,68 +2,53 @@
 #![tactic(auto)]
 
 ghost use Rattle.std.specs.Prelude.{◌≡◌};
-ghost use Rattle.moves.specs.Move.{refused_of};
-ghost use Rattle.engine.specs.Step.{outcome_of};
+ghost use Rattle.driver.specs.Promises.{idle_of};
+ghost use Rattle.engine.specs.Step.{outcome_told};
+ghost use Rattle.call_codes.specs.Codes.{settings_of};
 ghost use Rattle.outcomes.specs.Outcomes.{unknown_of, made_outcome, made_pool, unknown_start, begun_outcome, begun_pool};
 
 use call_codes::{ExportedCall, StartNumbers};
-use engine::Outcome;
 use radio_frame::Settings;
-use tasks::{Asked, State, Wait};
-
-// No action and no answer.
-fn refused(s: State, refusal: u8) -> Outcome
-    ensures { result ≡ outcome_of (refused_of s refusal) }
-{
-    driver::outcome_of(moves::refused(s, refusal))
-}
+use refusals::Refusal;
+use tasks::{Reply, State};
 
 // A code that stands for nothing: 2 to 4 come first, then 5.
-fn unknown(s: State, pool: usize) -> Outcome
-    ensures { result ≡ unknown_of s pool }
+#[tactic(auto, using(refusals::proofs::Refusals::not_zero), unfolding(crate::specs::Outcomes::unknown_of))]
+fn unknown(s: State, pool: usize) -> Result<(State, Reply), Refusal>
+    ensures { outcome_told s result ≡ unknown_of s pool }
 {
-    let set = s.set;
-    let refusal = radio_frame::settings_refusal(set, pool);
-    if refusal == 0 {
-        refused(s, 5)
-    } else {
-        refused(s, refusal)
-    }
+    radio_frame::check_settings(s.set, pool)?;
+    Err(Refusal::Unfit)
 }
 
 // The engine's outcome of a call.
-pub fn made(s: State, pool: &mut [u8], x: ExportedCall) -> Outcome
-    ensures { (result ≡ made_outcome s pool.old x) × (pool.new ≡ made_pool s pool.old x) }
+pub fn made(s: State, pool: &mut [u8], x: ExportedCall) -> Result<(State, Reply), Refusal>
+    ensures { (outcome_told s result ≡ made_outcome s pool.old x) × (pool.new ≡ made_pool s pool.old x) }
 {
-    if call_codes::is_known(x) {
-        driver::step(s, pool, call_codes::call_of(x))
-    } else {
-        unknown(s, pool.len())
+    match x.call() {
+        Some(c) => driver::step(s, pool, c),
+        None => unknown(s, pool.len()),
     }
 }
 
 // A code that stands for nothing at start: 2 comes first, then 3.
-fn unknown_start(set: Settings, pool: usize) -> Outcome
-    ensures { result ≡ unknown_start set pool }
+#[tactic(auto, unfolding(crate::specs::Outcomes::unknown_start))]
+fn unknown_start(set: Settings, pool: usize) -> Result<(State, Reply), Refusal>
+    ensures { outcome_told (idle_of set) result ≡ unknown_start set pool }
 {
-    let idle = State {
-        set: set,
-        wait: Wait::Asking(Asked::Idle),
-    };
-    if radio_frame::settings_refusal(set, pool) == 2 {
-        refused(idle, 2)
-    } else {
-        refused(idle, 3)
+    match radio_frame::check_settings(set, pool) {
+        Err(Refusal::Pool) => Err(Refusal::Pool),
+        _ => Err(Refusal::Lengths),
     }
 }
 
 // The engine's outcome of a start.
-pub fn begun(n: StartNumbers, pool: &mut [u8]) -> Outcome
-    ensures { (result ≡ begun_outcome n pool.old) × (pool.new ≡ begun_pool n pool.old) }
+pub fn begun(n: StartNumbers, pool: &mut [u8]) -> Result<(State, Reply), Refusal>
+    ensures { (outcome_told (idle_of (settings_of n)) result ≡ begun_outcome n pool.old) × (pool.new ≡ begun_pool n pool.old) }
 {
     if n.implicit_broadcast < 2 {
-        driver::start(call_codes::settings_of(n), pool)
+        driver::start(n.settings(), pool)
     } else {
-        unknown_start(call_codes::settings_of(n), pool.len())
+        unknown_start(n.settings(), pool.len())
     }
 }

@@ -15,14 +15,8 @@ pub enum Ifs {
     Lifs,
 }
 
-// The latest start of an acknowledgement, or that it does not fit 64 bits (refusal 11).
-#[derive(Clone, Copy)]
-pub enum LatestAckStart {
-    At(u64),
-    Exceeds,
-}
-
 // The spacing after a frame of a length with checksum.
+#[tactic(auto, unfolding(crate::specs::Phy::ifs_of))]
 pub fn from_mpdu_length(length: u16) -> Ifs
     ensures { result ≡ ifs_of length }
 {
@@ -30,23 +24,23 @@ pub fn from_mpdu_length(length: u16) -> Ifs
 }
 
 // The code of a spacing.
-pub fn ifs_code(ifs: Ifs) -> u8
-    ensures { result ≡ ifs_code ifs }
-{
-    match ifs {
-        Ifs::Aifs => 0,
-        Ifs::Sifs => 1,
-        Ifs::Lifs => 2,
+impl From<Ifs> for u8 {
+    ghost from_gives = { λ ifs r. r ≡ ifs_code ifs };
+
+    #[tactic(auto, unfolding(crate::specs::Phy::ifs_code))]
+    fn from(ifs: Ifs) -> u8 {
+        match ifs {
+            Ifs::Aifs => 0,
+            Ifs::Sifs => 1,
+            Ifs::Lifs => 2,
+        }
     }
 }
 
 // The latest start of an acknowledgement whose wait was entered at a measured time.
-pub fn latest_ack_start(entry: u64) -> LatestAckStart
+#[tactic(auto, unfolding(crate::specs::Phy::latest_ack_start_of, crate::specs::Phy::latest_ack_start_refusal))]
+pub fn latest_ack_start(entry: u64) -> Option<u64>
     ensures { LatestAckStarts entry result }
 {
-    if entry <= 0xFFFF_FFFF_FFFF_FFFF - 10_000 {
-        LatestAckStart::At(entry + 10_000)
-    } else {
-        LatestAckStart::Exceeds
-    }
+    entry.checked_add(10_000)
 }

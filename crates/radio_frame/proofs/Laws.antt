@@ -1,5 +1,6 @@
 -- The laws of settings and of the frame record that specs/Settings.antt and specs/RadioFrame.antt state.
 -- Assumes nothing.
+use Rattle.std.proofs.Common.{Some, None, ℕ}
 use Prim.Native.Nat.{ℕ, ◌*◌, ◌≤◌}
 use mathlib.Core.Path.{◌≡◌, refl, ap}
 use mathlib.Core.Logic.{◌⊎◌, inl, inr, ⊎_elim}
@@ -9,7 +10,6 @@ use borrow.Author.Tests.{ltb-false, leb-false, eqb-true, eqb-false, not-false, l
 use lib.Dec.{ltb, leb, eqb}
 use lib.ListN.{length, get_or}
 use Rattle.frame_control.specs.FrameControl.{frame_control_of}
-use Rattle.radio_frame.specs.declared.AckSeqNum.{AckSeqNum}
 use Rattle.radio_frame.specs.declared.Settings.{Settings}
 use Rattle.radio_frame.specs.Settings.{buffer_length, pool_unfit, rooms_unfit, own_buffers_unfit, settings_refusal}
 use Rattle.radio_frame.specs.Settings.{Unrefused, Fit, OneOfFour, ZeroIfNone, ZeroIfFit}
@@ -117,5 +117,5 @@ short_frames_never frame h =
     let fc = frame_control_of (get_or frame 0 0) (get_or frame 1 0) in
     ap
     (λ (three : Bool).
-    cond (three && (fc.ack_request && not fc.sequence_number_suppression)) (AckSeqNum.Is (get_or frame 2 0)) AckSeqNum.None)
+    cond (three && (fc.ack_request && not fc.sequence_number_suppression)) (Some (get_or frame 2 0)) None)
     (lt-leb 3 (length frame) h)

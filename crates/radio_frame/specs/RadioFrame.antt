@@ -1,11 +1,10 @@
 -- The frame record as numbers beside the pool: document 01, "Settings and pool" and "Calls"; radio_frame.rs.
 -- Assumes nothing.
-use Rattle.std.specs.Prelude.{ℕ, ◌+◌, ◌-◌, ◌*◌, ◌≤◌, ◌<◌, cond, not, ◌&&◌, List, ◌≡◌, ltb, leb, length, get_or, take, drop}
+use Rattle.std.specs.Prelude.{ℕ, ◌+◌, ◌-◌, ◌*◌, ◌≤◌, ◌<◌, cond, not, ◌&&◌, List, ◌≡◌, ltb, leb, length, get_or, take, drop, Option, Some, None}
 use Rattle.frame_control.specs.FrameControl.{frame_control_of}
 use Rattle.phy.specs.Phy.{phy_max_packet_size}
 use Rattle.radio_frame.specs.declared.Settings.{Settings}
 use Rattle.radio_frame.specs.declared.RadioFrame.{RadioFrame}
-use Rattle.radio_frame.specs.declared.AckSeqNum.{AckSeqNum}
 use Rattle.radio_frame.specs.Settings.{buffer_length, settings_refusal}
 
 -- "buffer b begins at 144 × b"
@@ -39,16 +38,16 @@ radio_frame_of s buffer length =
 
 -- "A Tx frame wants an ACK if its control at acceptance has bit 5 and its number is not suppressed; that number, its third
 -- byte, is noted." A suppressed number counts in version 2 only. `frame` is what is at hand of the frame's bytes.
-unfoldable pub ack_seq_num_of : List ℕ → AckSeqNum
+unfoldable pub ack_seq_num_of : List ℕ → Option ℕ
 ack_seq_num_of frame =
     let fc = frame_control_of (get_or frame 0 0) (get_or frame 1 0) in
-    cond (leb 3 (length frame) && (fc.ack_request && not fc.sequence_number_suppression)) (AckSeqNum.Is (get_or frame 2 0)) AckSeqNum.None
+    cond (leb 3 (length frame) && (fc.ack_request && not fc.sequence_number_suppression)) (Some (get_or frame 2 0)) None
 
 -- Laws of these definitions; proofs/Laws.antt has their proofs.
 
 -- fewer than three bytes have no number
 abbrev pub ShortFramesNever : Type 0
-ShortFramesNever = (frame : List ℕ) → length frame < 3 → ack_seq_num_of frame ≡ AckSeqNum.None
+ShortFramesNever = (frame : List ℕ) → length frame < 3 → ack_seq_num_of frame ≡ None
 
 -- the four parts follow one another from the buffer's beginning on, inside its bytes, and those inside the pool;
 -- "The longest frame with checksum is 127 bytes."

@@ -1,9 +1,12 @@
 // Settings, and the frame record as numbers beside the lent pool (radio_frame.rs, repr.rs).
 #![tactic(auto)]
 
-ghost use Rattle.std.specs.Prelude.{◌≡◌, cond};
+ghost use Rattle.std.specs.Prelude.{◌≡◌};
+ghost use Rattle.refusals.specs.Refusals.{number_of};
 ghost use Rattle.radio_frame.specs.Settings.{pool_unfit, rooms_unfit, own_buffers_unfit, settings_refusal};
 ghost use Rattle.radio_frame.specs.RadioFrame.{frame_start, sdu_length, radio_frame_of, ack_seq_num_of};
+
+use refusals::Refusal;
 
 // What start sets; a re-arm exchanges the spare buffer. The hardware address is its eight bytes, highest first, as one number.
 #[derive(Clone, Copy)]
@@ -38,54 +41,45 @@ pub struct RadioFrame {
     pub tailroom: Range,
 }
 
-// The number of a frame that wants an acknowledgement.
-#[derive(Clone, Copy)]
-pub enum AckSeqNum {
-    Is(u8),
-    None,
-}
-
-fn refuse_if(flag: bool, refusal: u8, later: u8) -> u8
-    ensures { result ≡ cond flag refusal later }
-{
-    if flag { refusal } else { later }
-}
-
-fn pool_unfit(set: Settings, len: usize) -> bool
+#[tactic(auto, unfolding(crate::specs::Settings::pool_unfit))]
+fn is_pool_unfit(set: Settings, len: usize) -> bool
     ensures { result ≡ pool_unfit set len }
 {
-    let outside = util::either(set.count < 3, 32 < set.count);
-    util::either(
-        outside,
-        !(len == (BUFFER_LENGTH * (set.count as u32)) as usize),
-    )
+    let count_unfit = set.count < 3 || 32 < set.count;
+    count_unfit || len != (BUFFER_LENGTH * u32::from(set.count)) as usize
 }
 
-fn rooms_unfit(set: Settings) -> bool
+#[tactic(auto, unfolding(crate::specs::Settings::rooms_unfit))]
+fn are_rooms_unfit(set: Settings) -> bool
     ensures { result ≡ rooms_unfit set }
 {
-    let rooms = util::either(8 < set.headroom, 8 < set.tailroom);
-    util::either(
-        rooms,
-        !util::either(set.fcs_length == 2, set.fcs_length == 4),
-    )
+    let too_long = 8 < set.headroom || 8 < set.tailroom;
+    too_long || !(set.fcs_length == 2 || set.fcs_length == 4)
 }
 
-fn own_buffers_unfit(set: Settings) -> bool
+#[tactic(auto, unfolding(crate::specs::Settings::own_buffers_unfit))]
+fn are_own_buffers_unfit(set: Settings) -> bool
     ensures { result ≡ own_buffers_unfit set }
 {
-    let above = util::either(set.count <= set.ack_buffer, set.count <= set.spare_buffer);
-    util::either(set.ack_buffer == set.spare_buffer, above)
+    let above = set.count <= set.ack_buffer || set.count <= set.spare_buffer;
+    set.ack_buffer == set.spare_buffer || above
 }
 
-// The first of refusals 2, 3 and 4 that settings and a pool of a length meet, or 0.
-pub fn settings_refusal(set: Settings, len: usize) -> u8
-    ensures { result ≡ settings_refusal set len }
+// The first of refusals 2, 3 and 4 that settings and a pool of a length meet.
+#[tactic(auto, unfolding(crate::specs::Settings::settings_refusal))]
+pub fn check_settings(set: Settings, len: usize) -> Result<(), Refusal>
+    ensures { number_of result ≡ settings_refusal set len }
 {
-    let pool = pool_unfit(set, len);
-    let lengths = rooms_unfit(set);
-    let own = own_buffers_unfit(set);
-    refuse_if(pool, 2, refuse_if(lengths, 3, refuse_if(own, 4, 0)))
+    if is_pool_unfit(set, len) {
+        return Err(Refusal::Pool);
+    }
+    if are_rooms_unfit(set) {
+        return Err(Refusal::Lengths);
+    }
+    if are_own_buffers_unfit(set) {
+        return Err(Refusal::OwnBuffers);
+    }
+    Ok(())
 }
 
 // Where a buffer's frame begins.
@@ -127,25 +121,23 @@ pub fn radio_frame(set: Settings, buffer: u8, length: u16) -> RadioFrame
         },
         tailroom: Range {
             start: tailroom,
-            end: end,
+            end,
         },
     }
 }
 
 // The number with which a frame, of which these bytes are given, wants an acknowledgement; fewer than three have none.
-pub fn ack_seq_num(frame: &[u8]) -> AckSeqNum
+#[tactic(auto, unfolding(crate::specs::RadioFrame::ack_seq_num_of))]
+pub fn ack_seq_num(frame: &[u8]) -> Option<u8>
     ensures { result ≡ ack_seq_num_of frame.now }
 {
     let low = util::byte_at(frame, 0);
     let high = util::byte_at(frame, 1);
     let fc = frame_control::frame_control(low, high);
-    let number = util::byte_at(frame, 2);
-    let wanted = fc.ack_request;
-    let suppressed = fc.sequence_number_suppression;
     let whole = 3 <= frame.len();
-    if util::both(whole, util::both(wanted, !suppressed)) {
-        AckSeqNum::Is(number)
+    if whole && fc.ack_request && !fc.sequence_number_suppression {
+        Some(util::byte_at(frame, 2))
     } else {
-        AckSeqNum::None
+        None
     }
 }

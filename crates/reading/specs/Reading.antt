@@ -1,17 +1,13 @@
 -- The header of a frame that is being received: document 01, "Waits", as document 02 changes it (E4).
 -- Assumes nothing.
-use Rattle.std.specs.Prelude.{ℕ, ◌+◌, ◌≡◌, ◌⊎◌, Bool, true, false, cond, List, ltb, eqb, take, drop}
+use Rattle.std.specs.Prelude.{ℕ, ◌+◌, ◌≡◌, ◌⊎◌, Bool, true, false, cond, List, ltb, eqb, take, drop, Option, Some, None}
 use Rattle.radio_frame.specs.declared.Settings.{Settings}
-use Rattle.radio_frame.specs.declared.AckSeqNum.{AckSeqNum}
 use Rattle.radio_frame.specs.RadioFrame.{frame_start}
 use Rattle.phy.specs.declared.Ifs.{Ifs}
 use Rattle.phy.specs.Phy.{ifs_of, phy_max_packet_size}
 use Rattle.frame_control.specs.declared.FrameControl.{FrameControl}
 use Rattle.header.specs.declared.Address.{Address}
-use Rattle.header.specs.declared.AddressingFact.{AddressingFact}
 use Rattle.header.specs.declared.AddressingFields.{AddressingFields}
-use Rattle.header.specs.declared.FrameControlFact.{FrameControlFact}
-use Rattle.header.specs.declared.SeqNrFact.{SeqNrFact}
 use Rattle.header.specs.declared.PreliminaryFrameInfo.{PreliminaryFrameInfo}
 use Rattle.header.specs.Header.{info_of}
 use Rattle.filter.specs.Filter.{broadcast_address, for_us}
@@ -20,12 +16,11 @@ use Rattle.tasks.specs.declared.Answers.{Answers}
 use Rattle.tasks.specs.declared.Asked.{Asked}
 use Rattle.tasks.specs.declared.Call.{Call}
 use Rattle.tasks.specs.declared.RxTask.{RxTask}
-use Rattle.tasks.specs.declared.NextTaskIfs.{NextTaskIfs}
 use Rattle.tasks.specs.declared.State.{State}
 use Rattle.tasks.specs.declared.Timestamp.{Timestamp}
 use Rattle.tasks.specs.declared.Transition.{Transition}
 use Rattle.tasks.specs.declared.Wait.{Wait}
-use Rattle.moves.specs.declared.Move.{Move}
+use Rattle.moves.specs.Move.{Move}
 use Rattle.moves.specs.Move.{unfit, accepted_of, guarded_of, ask_any}
 
 -- the destination alone decides: not the PAN, not the hardware address
@@ -36,25 +31,25 @@ broadcast_destination (Address.Extended a) = false
 
 -- E4: "a frame for us whose destination is short FFFF, or which passed by implicit broadcast". It is asked of frames for us; of these
 -- one without a destination passed by implicit broadcast (filter, `AbsentNeedsImplicit`), and none has its addressing missing.
-unfoldable pub broadcast : AddressingFact → Bool
-broadcast (AddressingFact.Are f) = broadcast_destination f.dst_address
-broadcast AddressingFact.Missing = false
+unfoldable pub broadcast : Option AddressingFields → Bool
+broadcast (Some f) = broadcast_destination f.dst_address
+broadcast None = false
 
 -- "with request bit and sequence number": the number that is wanted back
-unfoldable pub requested : FrameControlFact → SeqNrFact → AckSeqNum
-requested (FrameControlFact.Is fc) (SeqNrFact.Is k) = cond fc.ack_request (AckSeqNum.Is k) AckSeqNum.None
-requested (FrameControlFact.Is fc) SeqNrFact.Missing = AckSeqNum.None
-requested FrameControlFact.Missing number = AckSeqNum.None
+unfoldable pub requested : Option FrameControl → Option ℕ → Option ℕ
+requested (Some fc) (Some k) = cond fc.ack_request (Some k) None
+requested (Some fc) None = None
+requested None number = None
 
 -- the number to acknowledge: the one that is wanted, but none of a broadcast
-unfoldable pub number_to_acknowledge : AddressingFact → AckSeqNum → AckSeqNum
-number_to_acknowledge addressing wanted = cond (broadcast addressing) AckSeqNum.None wanted
+unfoldable pub number_to_acknowledge : Option AddressingFields → Option ℕ → Option ℕ
+number_to_acknowledge addressing wanted = cond (broadcast addressing) None wanted
 
 -- "not for us, re-arm with the spare buffer and no spacing"
 abbrev pub rearm_move : Settings → RxTask → Move
 rearm_move set q =
     accepted_of set (Wait.Entering (Transition.Rearm q))
-    (Action.Rx set.spare_buffer Timestamp.BestEffort NextTaskIfs.None false)
+    (Action.Rx set.spare_buffer Timestamp.BestEffort None false)
     Answers.None
 
 -- "write it in the ACK frame, send it, rollback on": three bytes after the ACK spacing
@@ -65,16 +60,16 @@ ack_turn_move set q i k =
       state = record { set = set; wait = Wait.Entering (Transition.AckTurn q i) };
       reply =
           record {
-            action = Action.Tx set.ack_buffer 3 false Timestamp.BestEffort (NextTaskIfs.Is Ifs.Aifs) true;
+            action = Action.Tx set.ack_buffer 3 false Timestamp.BestEffort (Some Ifs.Aifs) true;
             answers = Answers.None;
           };
-      number = AckSeqNum.Is k;
+      number = Some k;
     }
 
 -- by whether there is a number to acknowledge; "Else ask, any direction."
-unfoldable pub receive_move : Settings → RxTask → Ifs → AckSeqNum → Move
-receive_move set q i (AckSeqNum.Is k) = ack_turn_move set q i k
-receive_move set q i AckSeqNum.None = ask_any set (Asked.Receiving q i) Answers.None
+unfoldable pub receive_move : Settings → RxTask → Ifs → Option ℕ → Move
+receive_move set q i (Some k) = ack_turn_move set q i k
+receive_move set q i None = ask_any set (Asked.Receiving q i) Answers.None
 
 -- "For us with request bit and sequence number: write it in the ACK frame, send it, rollback on. Else ask, any direction." Of this E4
 -- changes: a broadcast "is received without an ACK turn". The spacing is by the data frame's length with checksum.
@@ -114,7 +109,7 @@ reading_of s pool q Call.Rollback = unfit s
 abbrev pub BroadcastNotAcknowledged : Type 0
 BroadcastNotAcknowledged =
     (set : Settings) (q : RxTask) (info : PreliminaryFrameInfo) (length : ℕ) (f : AddressingFields) →
-    info.addressing_fields ≡ AddressingFact.Are f →
+    info.addressing_fields ≡ Some f →
     (f.dst_address ≡ Address.Short 65535) ⊎ (f.dst_address ≡ Address.Absent) →
     header_move_of set q info length ≡
     cond (for_us set.hardware_addr set.pan_id set.implicit_broadcast info)
@@ -125,11 +120,11 @@ BroadcastNotAcknowledged =
 abbrev pub OthersAcknowledged : Type 0
 OthersAcknowledged =
     (set : Settings) (q : RxTask) (info : PreliminaryFrameInfo) (length : ℕ) (f : AddressingFields) (fc : FrameControl) (k : ℕ) →
-    info.addressing_fields ≡ AddressingFact.Are f →
+    info.addressing_fields ≡ Some f →
     (f.dst_address ≡ Address.Short 65535 → ⊥) →
     (f.dst_address ≡ Address.Absent → ⊥) →
     for_us set.hardware_addr set.pan_id set.implicit_broadcast info ≡ true →
-    info.frame_control ≡ FrameControlFact.Is fc →
+    info.frame_control ≡ Some fc →
     fc.ack_request ≡ true →
-    info.seq_nr ≡ SeqNrFact.Is k →
+    info.seq_nr ≡ Some k →
     header_move_of set q info length ≡ ack_turn_move set q (ifs_of length) k

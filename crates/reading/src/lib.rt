@@ -2,17 +2,20 @@
 #![tactic(auto)]
 
 ghost use Rattle.std.specs.Prelude.{◌≡◌};
+ghost use Rattle.refusals.specs.Refusals.{number_of};
+ghost use Rattle.moves.specs.Move.{made, told};
 ghost use Rattle.reading.specs.Reading.{broadcast_destination, broadcast, requested, number_to_acknowledge, rearm_move, ack_turn_move, receive_move, header_move_of, arrived_refusal, header_of, reading_of};
 
-use header::{Address, AddressingFact, FrameControlFact, PreliminaryFrameInfo, SeqNrFact};
-use moves::Move;
+use frame_control::FrameControl;
+use header::{Address, AddressingFields, PreliminaryFrameInfo};
+use moves::Accepted;
 use phy::Ifs;
-use radio_frame::{AckSeqNum, Settings};
-use tasks::{
-    Action, Answers, Asked, Call, NextTaskIfs, Reply, RxTask, State, Timestamp, Transition, Wait,
-};
+use radio_frame::Settings;
+use refusals::Refusal;
+use tasks::{Action, Answers, Asked, Call, Reply, RxTask, State, Timestamp, Transition, Wait};
 
 // The destination is the broadcast address or absent.
+#[tactic(auto, unfolding(crate::specs::Reading::broadcast_destination))]
 fn is_broadcast_destination(address: Address) -> bool
     ensures { result ≡ broadcast_destination address }
 {
@@ -24,146 +27,124 @@ fn is_broadcast_destination(address: Address) -> bool
 }
 
 // Whether a frame for us is a broadcast: to the short address FFFF, or without a destination.
-fn is_broadcast(fact: AddressingFact) -> bool
+#[tactic(auto, unfolding(crate::specs::Reading::broadcast))]
+fn is_broadcast(fact: Option<AddressingFields>) -> bool
     ensures { result ≡ broadcast fact }
 {
     match fact {
-        AddressingFact::Are(fields) => {
-            let dst_address = fields.dst_address;
-            is_broadcast_destination(dst_address)
-        }
-        AddressingFact::Missing => false,
+        Some(fields) => is_broadcast_destination(fields.dst_address),
+        None => false,
     }
 }
 
 // The number that is wanted back: the frame's own, if it has one and requests an acknowledgement.
-fn requested_ack(control: FrameControlFact, number: SeqNrFact) -> AckSeqNum
+#[tactic(auto, unfolding(crate::specs::Reading::requested))]
+fn requested_ack(control: Option<FrameControl>, number: Option<u8>) -> Option<u8>
     ensures { result ≡ requested control number }
 {
-    let FrameControlFact::Is(fc) = control else {
-        return AckSeqNum::None;
-    };
-    let SeqNrFact::Is(k) = number else {
-        return AckSeqNum::None;
-    };
-    if fc.ack_request {
-        AckSeqNum::Is(k)
-    } else {
-        AckSeqNum::None
-    }
+    let fc = control?;
+    let k = number?;
+    if fc.ack_request { Some(k) } else { None }
 }
 
 // The number to acknowledge: the one that is wanted, but none of a broadcast.
-fn number_to_acknowledge(fact: AddressingFact, wanted: AckSeqNum) -> AckSeqNum
+#[tactic(auto, unfolding(crate::specs::Reading::number_to_acknowledge))]
+fn number_to_acknowledge(fact: Option<AddressingFields>, wanted: Option<u8>) -> Option<u8>
     ensures { result ≡ number_to_acknowledge fact wanted }
 {
-    if is_broadcast(fact) {
-        AckSeqNum::None
-    } else {
-        wanted
-    }
+    if is_broadcast(fact) { None } else { wanted }
 }
 
-fn rearm(set: Settings, q: RxTask) -> Move
-    ensures { result ≡ rearm_move set q }
+fn rearm(set: Settings, q: RxTask) -> Accepted
+    ensures { made result ≡ rearm_move set q }
 {
-    moves::accepted(
+    moves::accept(
         set,
         Wait::Entering(Transition::Rearm(q)),
-        Action::Rx(
-            set.spare_buffer,
-            Timestamp::BestEffort,
-            NextTaskIfs::None,
-            false,
-        ),
+        Action::Rx(set.spare_buffer, Timestamp::BestEffort, None, false),
         Answers::None,
     )
 }
 
-fn ack_turn(set: Settings, q: RxTask, i: Ifs, k: u8) -> Move
-    ensures { result ≡ ack_turn_move set q i k }
+fn ack_turn(set: Settings, q: RxTask, i: Ifs, k: u8) -> Accepted
+    ensures { made result ≡ ack_turn_move set q i k }
 {
-    Move {
-        refusal: 0,
-        state: State {
-            set: set,
-            wait: Wait::Entering(Transition::AckTurn(q, i)),
-        },
-        reply: Reply {
-            action: Action::Tx(
-                set.ack_buffer,
-                3,
-                false,
-                Timestamp::BestEffort,
-                NextTaskIfs::Is(Ifs::Aifs),
-                true,
-            ),
-            answers: Answers::None,
-        },
-        number: AckSeqNum::Is(k),
+    let turn = moves::accept(
+        set,
+        Wait::Entering(Transition::AckTurn(q, i)),
+        Action::Tx(
+            set.ack_buffer,
+            3,
+            false,
+            Timestamp::BestEffort,
+            Some(Ifs::Aifs),
+            true,
+        ),
+        Answers::None,
+    );
+    Accepted {
+        number: Some(k),
+        ..turn
     }
 }
 
-fn receive(set: Settings, q: RxTask, i: Ifs, number: AckSeqNum) -> Move
-    ensures { result ≡ receive_move set q i number }
+#[tactic(auto, unfolding(crate::specs::Reading::receive_move))]
+fn receive(set: Settings, q: RxTask, i: Ifs, number: Option<u8>) -> Accepted
+    ensures { made result ≡ receive_move set q i number }
 {
     match number {
-        AckSeqNum::Is(k) => ack_turn(set, q, i, k),
-        AckSeqNum::None => moves::ask(set, Asked::Receiving(q, i), Answers::None),
+        Some(k) => ack_turn(set, q, i, k),
+        None => moves::ask(set, Asked::Receiving(q, i), Answers::None),
     }
 }
 
 // What the facts of a header come to.
-fn header_move(set: Settings, q: RxTask, info: PreliminaryFrameInfo, length: u16) -> Move
-    ensures { result ≡ header_move_of set q info length }
+#[tactic(auto, unfolding(crate::specs::Reading::header_move_of))]
+fn header_move(set: Settings, q: RxTask, info: PreliminaryFrameInfo, length: u16) -> Accepted
+    ensures { made result ≡ header_move_of set q info length }
 {
-    let control = info.frame_control;
-    let number = info.seq_nr;
-    let fields = info.addressing_fields;
     let ours = filter::is_frame_valid_and_for_us(
         set.hardware_addr,
         set.pan_id,
         set.implicit_broadcast,
         info,
     );
-    if ours {
-        let ifs = phy::from_mpdu_length(length);
-        let wanted = requested_ack(control, number);
-        receive(set, q, ifs, number_to_acknowledge(fields, wanted))
-    } else {
-        rearm(set, q)
+    if !ours {
+        return rearm(set, q);
     }
+    let ifs = phy::from_mpdu_length(length);
+    let wanted = requested_ack(info.frame_control, info.seq_nr);
+    let number = number_to_acknowledge(info.addressing_fields, wanted);
+    receive(set, q, ifs, number)
 }
 
-fn arrived_refusal(set: Settings, arrived: u16) -> u8
-    ensures { result ≡ arrived_refusal set arrived }
+#[tactic(auto, unfolding(crate::specs::Reading::arrived_refusal))]
+fn check_arrived(set: Settings, arrived: u16) -> Result<(), Refusal>
+    ensures { number_of result ≡ arrived_refusal set arrived }
 {
-    if phy::PHY_MAX_PACKET_SIZE < (arrived as u32) + (set.fcs_length as u32) {
-        10
-    } else {
-        0
+    if phy::PHY_MAX_PACKET_SIZE < u32::from(arrived) + u32::from(set.fcs_length) {
+        return Err(Refusal::ReceivedLength);
     }
+    Ok(())
 }
 
-fn read(s: State, pool: &[u8], q: RxTask, arrived: u16, length: u16) -> Move
-    ensures { result ≡ header_of s pool.now q arrived length }
+#[tactic(auto, unfolding(crate::specs::Reading::header_of, moves::specs::Move::guarded_of))]
+fn read(s: State, pool: &[u8], q: RxTask, arrived: u16, length: u16) -> Result<Accepted, Refusal>
+    ensures { told s result ≡ header_of s pool.now q arrived length }
 {
-    let set = s.set;
-    let at = radio_frame::frame_start(set, q.buffer) as usize;
-    let info = header::preliminary_frame_info(util::part(pool, at, arrived as usize));
-    moves::guarded(
-        s,
-        arrived_refusal(set, arrived),
-        header_move(set, q, info, length),
-    )
+    check_arrived(s.set, arrived)?;
+    let at = radio_frame::frame_start(s.set, q.buffer) as usize;
+    let info = header::preliminary_frame_info(util::part(pool, at, usize::from(arrived)));
+    Ok(header_move(s.set, q, info, length))
 }
 
 // A call in a wait for the header: Header.
-pub fn reading(s: State, pool: &[u8], q: RxTask, c: Call) -> Move
-    ensures { result ≡ reading_of s pool.now q c }
+#[tactic(auto, unfolding(crate::specs::Reading::reading_of))]
+pub fn reading(s: State, pool: &[u8], q: RxTask, c: Call) -> Result<Accepted, Refusal>
+    ensures { told s result ≡ reading_of s pool.now q c }
 {
     match c {
         Call::Header(n, l) => read(s, pool, q, n, l),
-        _ => moves::refused(s, 5),
+        _ => Err(Refusal::Unfit),
     }
 }

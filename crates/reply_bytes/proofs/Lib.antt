@@ -1,4 +1,3 @@
-pub mod Assembled
 pub mod ReadBack
 pub mod Spacing
 pub mod Qualities

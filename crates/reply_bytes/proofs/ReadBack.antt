@@ -1,5 +1,6 @@
 -- A reply is read back from its bytes.
 -- Assumes nothing.
+use Rattle.std.proofs.Common.{Option, Some, None, ℕ}
 use Prim.Native.Nat.{ℕ, ◌%◌, ◌^◌, ◌<◌}
 use mathlib.Core.Path.{◌≡◌, refl, ◌∙◌, ap}
 use mathlib.Core.Bool.{Bool, true, false, cond}
@@ -10,7 +11,6 @@ use Rattle.util.proofs.Numbers.{read_back}
 use Rattle.phy.specs.declared.Ifs.{Ifs}
 use Rattle.phy.specs.Phy.{ifs_code}
 use Rattle.tasks.specs.declared.Action.{Action}
-use Rattle.tasks.specs.declared.NextTaskIfs.{NextTaskIfs}
 use Rattle.tasks.specs.declared.StopListening.{StopListening}
 use Rattle.tasks.specs.declared.TaskDirection.{TaskDirection}
 use Rattle.tasks.specs.declared.Answer.{Answer}
@@ -113,49 +113,49 @@ answers_back r F = go r.answers F
 -- ---- The action
 
 -- the flags hold what they are made of
-flags_back : (cca rollback : Bool) (start : Timestamp) (spacing : NextTaskIfs)
+flags_back : (cca rollback : Bool) (start : Timestamp) (spacing : Option Ifs)
     → (bit 0 (task_flags cca rollback start spacing) ≡ cca)
     × (bit 1 (task_flags cca rollback start spacing) ≡ rollback)
     × (start_at (task_flags cca rollback start spacing) (start_time start) ≡ start)
     × (spacing_at (task_flags cca rollback start spacing) ≡ spacing)
 unfolding start_bit start_time spacing_bits ifs_code
-flags_back true true Timestamp.BestEffort NextTaskIfs.None = (refl, refl, refl, refl)
-flags_back true true Timestamp.BestEffort (NextTaskIfs.Is Ifs.Aifs) = (refl, refl, refl, refl)
-flags_back true true Timestamp.BestEffort (NextTaskIfs.Is Ifs.Sifs) = (refl, refl, refl, refl)
-flags_back true true Timestamp.BestEffort (NextTaskIfs.Is Ifs.Lifs) = (refl, refl, refl, refl)
-flags_back true true (Timestamp.Scheduled t) NextTaskIfs.None = (refl, refl, refl, refl)
-flags_back true true (Timestamp.Scheduled t) (NextTaskIfs.Is Ifs.Aifs) = (refl, refl, refl, refl)
-flags_back true true (Timestamp.Scheduled t) (NextTaskIfs.Is Ifs.Sifs) = (refl, refl, refl, refl)
-flags_back true true (Timestamp.Scheduled t) (NextTaskIfs.Is Ifs.Lifs) = (refl, refl, refl, refl)
-flags_back true false Timestamp.BestEffort NextTaskIfs.None = (refl, refl, refl, refl)
-flags_back true false Timestamp.BestEffort (NextTaskIfs.Is Ifs.Aifs) = (refl, refl, refl, refl)
-flags_back true false Timestamp.BestEffort (NextTaskIfs.Is Ifs.Sifs) = (refl, refl, refl, refl)
-flags_back true false Timestamp.BestEffort (NextTaskIfs.Is Ifs.Lifs) = (refl, refl, refl, refl)
-flags_back true false (Timestamp.Scheduled t) NextTaskIfs.None = (refl, refl, refl, refl)
-flags_back true false (Timestamp.Scheduled t) (NextTaskIfs.Is Ifs.Aifs) = (refl, refl, refl, refl)
-flags_back true false (Timestamp.Scheduled t) (NextTaskIfs.Is Ifs.Sifs) = (refl, refl, refl, refl)
-flags_back true false (Timestamp.Scheduled t) (NextTaskIfs.Is Ifs.Lifs) = (refl, refl, refl, refl)
-flags_back false true Timestamp.BestEffort NextTaskIfs.None = (refl, refl, refl, refl)
-flags_back false true Timestamp.BestEffort (NextTaskIfs.Is Ifs.Aifs) = (refl, refl, refl, refl)
-flags_back false true Timestamp.BestEffort (NextTaskIfs.Is Ifs.Sifs) = (refl, refl, refl, refl)
-flags_back false true Timestamp.BestEffort (NextTaskIfs.Is Ifs.Lifs) = (refl, refl, refl, refl)
-flags_back false true (Timestamp.Scheduled t) NextTaskIfs.None = (refl, refl, refl, refl)
-flags_back false true (Timestamp.Scheduled t) (NextTaskIfs.Is Ifs.Aifs) = (refl, refl, refl, refl)
-flags_back false true (Timestamp.Scheduled t) (NextTaskIfs.Is Ifs.Sifs) = (refl, refl, refl, refl)
-flags_back false true (Timestamp.Scheduled t) (NextTaskIfs.Is Ifs.Lifs) = (refl, refl, refl, refl)
-flags_back false false Timestamp.BestEffort NextTaskIfs.None = (refl, refl, refl, refl)
-flags_back false false Timestamp.BestEffort (NextTaskIfs.Is Ifs.Aifs) = (refl, refl, refl, refl)
-flags_back false false Timestamp.BestEffort (NextTaskIfs.Is Ifs.Sifs) = (refl, refl, refl, refl)
-flags_back false false Timestamp.BestEffort (NextTaskIfs.Is Ifs.Lifs) = (refl, refl, refl, refl)
-flags_back false false (Timestamp.Scheduled t) NextTaskIfs.None = (refl, refl, refl, refl)
-flags_back false false (Timestamp.Scheduled t) (NextTaskIfs.Is Ifs.Aifs) = (refl, refl, refl, refl)
-flags_back false false (Timestamp.Scheduled t) (NextTaskIfs.Is Ifs.Sifs) = (refl, refl, refl, refl)
-flags_back false false (Timestamp.Scheduled t) (NextTaskIfs.Is Ifs.Lifs) = (refl, refl, refl, refl)
+flags_back true true Timestamp.BestEffort None = (refl, refl, refl, refl)
+flags_back true true Timestamp.BestEffort (Some Ifs.Aifs) = (refl, refl, refl, refl)
+flags_back true true Timestamp.BestEffort (Some Ifs.Sifs) = (refl, refl, refl, refl)
+flags_back true true Timestamp.BestEffort (Some Ifs.Lifs) = (refl, refl, refl, refl)
+flags_back true true (Timestamp.Scheduled t) None = (refl, refl, refl, refl)
+flags_back true true (Timestamp.Scheduled t) (Some Ifs.Aifs) = (refl, refl, refl, refl)
+flags_back true true (Timestamp.Scheduled t) (Some Ifs.Sifs) = (refl, refl, refl, refl)
+flags_back true true (Timestamp.Scheduled t) (Some Ifs.Lifs) = (refl, refl, refl, refl)
+flags_back true false Timestamp.BestEffort None = (refl, refl, refl, refl)
+flags_back true false Timestamp.BestEffort (Some Ifs.Aifs) = (refl, refl, refl, refl)
+flags_back true false Timestamp.BestEffort (Some Ifs.Sifs) = (refl, refl, refl, refl)
+flags_back true false Timestamp.BestEffort (Some Ifs.Lifs) = (refl, refl, refl, refl)
+flags_back true false (Timestamp.Scheduled t) None = (refl, refl, refl, refl)
+flags_back true false (Timestamp.Scheduled t) (Some Ifs.Aifs) = (refl, refl, refl, refl)
+flags_back true false (Timestamp.Scheduled t) (Some Ifs.Sifs) = (refl, refl, refl, refl)
+flags_back true false (Timestamp.Scheduled t) (Some Ifs.Lifs) = (refl, refl, refl, refl)
+flags_back false true Timestamp.BestEffort None = (refl, refl, refl, refl)
+flags_back false true Timestamp.BestEffort (Some Ifs.Aifs) = (refl, refl, refl, refl)
+flags_back false true Timestamp.BestEffort (Some Ifs.Sifs) = (refl, refl, refl, refl)
+flags_back false true Timestamp.BestEffort (Some Ifs.Lifs) = (refl, refl, refl, refl)
+flags_back false true (Timestamp.Scheduled t) None = (refl, refl, refl, refl)
+flags_back false true (Timestamp.Scheduled t) (Some Ifs.Aifs) = (refl, refl, refl, refl)
+flags_back false true (Timestamp.Scheduled t) (Some Ifs.Sifs) = (refl, refl, refl, refl)
+flags_back false true (Timestamp.Scheduled t) (Some Ifs.Lifs) = (refl, refl, refl, refl)
+flags_back false false Timestamp.BestEffort None = (refl, refl, refl, refl)
+flags_back false false Timestamp.BestEffort (Some Ifs.Aifs) = (refl, refl, refl, refl)
+flags_back false false Timestamp.BestEffort (Some Ifs.Sifs) = (refl, refl, refl, refl)
+flags_back false false Timestamp.BestEffort (Some Ifs.Lifs) = (refl, refl, refl, refl)
+flags_back false false (Timestamp.Scheduled t) None = (refl, refl, refl, refl)
+flags_back false false (Timestamp.Scheduled t) (Some Ifs.Aifs) = (refl, refl, refl, refl)
+flags_back false false (Timestamp.Scheduled t) (Some Ifs.Sifs) = (refl, refl, refl, refl)
+flags_back false false (Timestamp.Scheduled t) (Some Ifs.Lifs) = (refl, refl, refl, refl)
 
-tx_back : {n m : ℕ} {c c' r r' : Bool} {s s' : Timestamp} {p p' : NextTaskIfs} (b : ℕ) → n ≡ m → c ≡ c' → s ≡ s' → p ≡ p' → r ≡ r' → Action.Tx b n c s p r ≡ Action.Tx b m c' s' p' r'
+tx_back : {n m : ℕ} {c c' r r' : Bool} {s s' : Timestamp} {p p' : Option Ifs} (b : ℕ) → n ≡ m → c ≡ c' → s ≡ s' → p ≡ p' → r ≡ r' → Action.Tx b n c s p r ≡ Action.Tx b m c' s' p' r'
 tx_back b e f g h i = rw (e, f, g, h, i)
 
-rx_back : {r r' : Bool} {s s' : Timestamp} {p p' : NextTaskIfs} (b : ℕ) → s ≡ s' → p ≡ p' → r ≡ r' → Action.Rx b s p r ≡ Action.Rx b s' p' r'
+rx_back : {r r' : Bool} {s s' : Timestamp} {p p' : Option Ifs} (b : ℕ) → s ≡ s' → p ≡ p' → r ≡ r' → Action.Rx b s p r ≡ Action.Rx b s' p' r'
 rx_back b g h i = rw (g, h, i)
 
 fields_action : (a : Action) → ActionFits a → action_from (action_fields a) ≡ a

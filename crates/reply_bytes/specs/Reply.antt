@@ -1,6 +1,6 @@
 -- The reply's 48 bytes: docs/LAYOUTS.md, "The reply's 48 bytes".
 -- Assumes nothing.
-use Rattle.std.specs.Prelude.{ℕ, ◌+◌, ◌-◌, ◌*◌, ◌/◌, ◌%◌, ◌^◌, ◌<◌, ◌≡◌, Bool, false, cond, List, [], ◌∷◌, ◌++◌, eqb, get_or}
+use Rattle.std.specs.Prelude.{ℕ, ◌+◌, ◌-◌, ◌*◌, ◌/◌, ◌%◌, ◌^◌, ◌<◌, ◌≡◌, Bool, false, cond, List, [], ◌∷◌, ◌++◌, eqb, get_or, Option, Some, None}
 use Rattle.util.specs.Bytes.{number_at, bytes_of}
 use Rattle.phy.specs.declared.Ifs.{Ifs}
 use Rattle.phy.specs.Phy.{ifs_code}
@@ -11,7 +11,6 @@ use Rattle.tasks.specs.declared.Cause.{Cause}
 use Rattle.tasks.specs.declared.Reply.{Reply}
 use Rattle.tasks.specs.declared.Response.{Response}
 use Rattle.tasks.specs.declared.RxResult.{RxResult}
-use Rattle.tasks.specs.declared.NextTaskIfs.{NextTaskIfs}
 use Rattle.tasks.specs.declared.StopListening.{StopListening}
 use Rattle.tasks.specs.declared.TaskDirection.{TaskDirection}
 use Rattle.tasks.specs.declared.Timestamp.{Timestamp}
@@ -23,9 +22,9 @@ use Rattle.reply_bytes.specs.declared.AnswerFields.{AnswerFields}
 -- ---- The action
 
 -- "bits 3 and 4 spacing: 0 none, 1 ACK, 2 short, 3 long"
-unfoldable pub spacing_bits : NextTaskIfs → ℕ
-spacing_bits NextTaskIfs.None = 0
-spacing_bits (NextTaskIfs.Is i) = 8 * (1 + ifs_code i)
+unfoldable pub spacing_bits : Option Ifs → ℕ
+spacing_bits None = 0
+spacing_bits (Some i) = 8 * (1 + ifs_code i)
 
 -- "bit 2 the start is a time"
 unfoldable pub start_bit : Timestamp → ℕ
@@ -37,7 +36,7 @@ start_time Timestamp.BestEffort = 0
 start_time (Timestamp.Scheduled t) = t
 
 -- "bit 0 channel check, bit 1 rollback", then the two above
-abbrev pub task_flags : Bool → Bool → Timestamp → NextTaskIfs → ℕ
+abbrev pub task_flags : Bool → Bool → Timestamp → Option Ifs → ℕ
 task_flags cca rollback start spacing = cond cca 1 0 + cond rollback 2 0 + start_bit start + spacing_bits spacing
 
 unfoldable pub direction_code : TaskDirection → ℕ
@@ -142,9 +141,9 @@ written_reply r = written_fields (action_fields r.action) (first_fields r.answer
 abbrev pub bit : ℕ → ℕ → Bool
 bit k flags = eqb (flags / 2 ^ k % 2) 1
 
-abbrev pub spacing_at : ℕ → NextTaskIfs
+abbrev pub spacing_at : ℕ → Option Ifs
 spacing_at flags =
-    get_or (NextTaskIfs.None ∷ NextTaskIfs.Is Ifs.Aifs ∷ NextTaskIfs.Is Ifs.Sifs ∷ NextTaskIfs.Is Ifs.Lifs ∷ []) (flags / 8) NextTaskIfs.None
+    get_or (None ∷ Some Ifs.Aifs ∷ Some Ifs.Sifs ∷ Some Ifs.Lifs ∷ []) (flags / 8) None
 
 abbrev pub start_at : ℕ → ℕ → Timestamp
 start_at flags time = cond (bit 2 flags) (Timestamp.Scheduled time) Timestamp.BestEffort

@@ -1,13 +1,12 @@
 -- The laws of refusals 6 and 7 that specs/Requests.antt states.
 -- Assumes nothing.
+use Rattle.std.proofs.Common.{Option, ℕ, Some, None}
 use Prim.Native.Nat.{ℕ}
 use mathlib.Core.Path.{◌≡◌, refl, ap, sym}
 use mathlib.Core.Logic.{◌⊎◌, inl, inr, ◌↔◌}
 use mathlib.Core.Bool.{Bool, true, false, true≢false, ◌||◌}
 use lib.Dec.{eqb}
 use borrow.Author.Tests.{eqb-true, eq-eqb}
-use Rattle.tasks.specs.declared.Slot.{Slot}
-use Rattle.tasks.specs.declared.Slot.TheVariants.{Empty, Held}
 use Rattle.tasks.specs.Pending.{pending_of}
 use Rattle.requests.specs.Requests.{slot_has_token, slot_has_buffer, token_held, buffer_held}
 use Rattle.requests.specs.Requests.{HasToken, HasBuffer, TokenHeldExactly, BufferHeldExactly}
@@ -32,21 +31,21 @@ or {A = A} {B = B} a b p q = (to a p.0, back a p.1)
 equal : (x y : ℕ) → Exactly (eqb x y) (x ≡ y)
 equal x y = (eqb-true x y, eq-eqb x y)
 
-has_token_lem : (h : Slot) (token : ℕ) → Exactly (slot_has_token h token) (HasToken h token)
+has_token_lem : (h : Option (ℕ × ℕ)) (token : ℕ) → Exactly (slot_has_token h token) (HasToken h token)
 unfolding slot_has_token
 has_token_lem h token = (to h, λ x. rw x.held (eq-eqb token token refl))
   where
-    to : (h : Slot) → slot_has_token h token ≡ true → HasToken h token
-    to Empty e = absurd (true≢false (sym e))
-    to (Held t b) e = record { buffer = b; held = ap (λ (k : ℕ). Held k b) (eqb-true t token e) }
+    to : (h : Option (ℕ × ℕ)) → slot_has_token h token ≡ true → HasToken h token
+    to None e = absurd (true≢false (sym e))
+    to (Some (t, b)) e = record { buffer = b; held = ap (λ (k : ℕ). Some (k, b)) (eqb-true t token e) }
 
-has_buffer_lem : (h : Slot) (buffer : ℕ) → Exactly (slot_has_buffer h buffer) (HasBuffer h buffer)
+has_buffer_lem : (h : Option (ℕ × ℕ)) (buffer : ℕ) → Exactly (slot_has_buffer h buffer) (HasBuffer h buffer)
 unfolding slot_has_buffer
 has_buffer_lem h buffer = (to h, λ x. rw x.held (eq-eqb buffer buffer refl))
   where
-    to : (h : Slot) → slot_has_buffer h buffer ≡ true → HasBuffer h buffer
-    to Empty e = absurd (true≢false (sym e))
-    to (Held t b) e = record { token = t; held = ap (λ (k : ℕ). Held t k) (eqb-true b buffer e) }
+    to : (h : Option (ℕ × ℕ)) → slot_has_buffer h buffer ≡ true → HasBuffer h buffer
+    to None e = absurd (true≢false (sym e))
+    to (Some (t, b)) e = record { token = t; held = ap (λ (k : ℕ). Some (t, k)) (eqb-true b buffer e) }
 
 pub token_held_exactly : TokenHeldExactly
 unfolding token_held

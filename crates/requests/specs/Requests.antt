@@ -1,6 +1,6 @@
 -- What a state holds, and the refusals of a request: document 01, "Refusals, in checking order", 6 to 9.
 -- Assumes nothing.
-use Rattle.std.specs.Prelude.{ℕ, ◌+◌, ◌≡◌, ◌⊎◌, ◌↔◌, Bool, true, false, cond, not, ◌||◌, ltb, leb, eqb}
+use Rattle.std.specs.Prelude.{ℕ, ◌+◌, ◌≡◌, ◌⊎◌, ◌↔◌, Bool, true, false, cond, not, ◌||◌, ltb, leb, eqb, Option, Some, None}
 use Rattle.phy.specs.Phy.{phy_max_packet_size}
 use Rattle.radio_frame.specs.declared.Settings.{Settings}
 use Rattle.tasks.specs.declared.Timestamp.{Timestamp}
@@ -9,8 +9,6 @@ use Rattle.tasks.specs.declared.Request.{Request}
 use Rattle.tasks.specs.declared.Asked.{Asked}
 use Rattle.tasks.specs.declared.Wait.{Wait}
 use Rattle.tasks.specs.declared.State.{State}
-use Rattle.tasks.specs.declared.Slot.{Slot}
-use Rattle.tasks.specs.declared.Slot.TheVariants.{Empty, Held}
 use Rattle.tasks.specs.declared.Starts.{Starts}
 use Rattle.tasks.specs.declared.Starts.TheVariants.{Never, BestEffort, Any}
 use Rattle.tasks.specs.declared.Allowed.{Allowed}
@@ -18,13 +16,13 @@ use Rattle.tasks.specs.Pending.{pending_of}
 
 -- ---- 6 and 7
 
-unfoldable pub slot_has_token : Slot → ℕ → Bool
-slot_has_token Empty token = false
-slot_has_token (Held t b) token = eqb t token
+unfoldable pub slot_has_token : Option (ℕ × ℕ) → ℕ → Bool
+slot_has_token None token = false
+slot_has_token (Some (t, b)) token = eqb t token
 
-unfoldable pub slot_has_buffer : Slot → ℕ → Bool
-slot_has_buffer Empty buffer = false
-slot_has_buffer (Held t b) buffer = eqb b buffer
+unfoldable pub slot_has_buffer : Option (ℕ × ℕ) → ℕ → Bool
+slot_has_buffer None buffer = false
+slot_has_buffer (Some (t, b)) buffer = eqb b buffer
 
 -- "6. The token is held by an unanswered request."
 unfoldable pub token_held : Wait → ℕ → Bool
@@ -98,13 +96,13 @@ arrival_refusal s q buffer full token =
 -- Laws of 6 and 7, in the paper's words; proofs/Laws.antt has their proofs.
 
 -- an unanswered request with a token, and one with a buffer
-pub record HasToken (h : Slot) (token : ℕ) : Type 0 where
+pub record HasToken (h : Option (ℕ × ℕ)) (token : ℕ) : Type 0 where
   pub buffer : ℕ
-  pub held : h ≡ Held token buffer
+  pub held : h ≡ Some (token, buffer)
 
-pub record HasBuffer (h : Slot) (buffer : ℕ) : Type 0 where
+pub record HasBuffer (h : Option (ℕ × ℕ)) (buffer : ℕ) : Type 0 where
   pub token : ℕ
-  pub held : h ≡ Held token buffer
+  pub held : h ≡ Some (token, buffer)
 
 -- a token is held exactly if one of the unanswered requests has it
 abbrev pub TokenHeldExactly : Type 0

@@ -1,164 +1,156 @@
 // What of a state decides a request's refusal (driver.rs).
 #![tactic(auto)]
 
-ghost use Rattle.std.specs.Prelude.{◌≡◌, cond};
-ghost use Rattle.requests.specs.Requests.{slot_has_token, slot_has_buffer, token_held, buffer_held, tx_length_unfit, timed, allow, allowed_of, start_allowed, not_allowed, request_refusal, arrival_refusal};
+ghost use Rattle.std.specs.Prelude.{◌≡◌, ◌||◌, cond, leb};
+ghost use Rattle.refusals.specs.Refusals.{number_of};
+ghost use Rattle.requests.specs.Requests.{slot_has_token, slot_has_buffer, token_held, buffer_held, tx_length_unfit, allow, allowed_of, start_allowed, not_allowed, request_refusal, arrival_refusal};
 
 use radio_frame::Settings;
-use tasks::{Allowed, Asked, Request, Slot, Starts, State, Task, Timestamp, Wait};
+use refusals::Refusal;
+use tasks::{Allowed, Asked, Request, Starts, State, Task, Timestamp, Wait};
 
-fn slot_has_token(h: Slot, token: u32) -> bool
+#[tactic(auto, unfolding(crate::specs::Requests::slot_has_token))]
+fn slot_has_token(h: Option<(u32, u8)>, token: u32) -> bool
     ensures { result ≡ slot_has_token h token }
 {
     match h {
-        Slot::Empty => false,
-        Slot::Held(t, b) => t == token,
+        None => false,
+        Some((t, _)) => t == token,
     }
 }
 
-fn slot_has_buffer(h: Slot, buffer: u8) -> bool
+#[tactic(auto, unfolding(crate::specs::Requests::slot_has_buffer))]
+fn slot_has_buffer(h: Option<(u32, u8)>, buffer: u8) -> bool
     ensures { result ≡ slot_has_buffer h buffer }
 {
     match h {
-        Slot::Empty => false,
-        Slot::Held(t, b) => b == buffer,
+        None => false,
+        Some((_, b)) => b == buffer,
     }
 }
 
-fn token_held(w: Wait, token: u32) -> bool
+#[tactic(auto, unfolding(crate::specs::Requests::token_held))]
+fn is_token_held(w: Wait, token: u32) -> bool
     ensures { result ≡ token_held w token }
 {
     let p = tasks::pending_requests(w);
-    let first = p.first;
-    let second = p.second;
-    util::either(slot_has_token(first, token), slot_has_token(second, token))
+    slot_has_token(p.first, token) || slot_has_token(p.second, token)
 }
 
-fn buffer_held(s: State, buffer: u8) -> bool
+#[tactic(auto, unfolding(crate::specs::Requests::buffer_held))]
+fn is_buffer_held(s: State, buffer: u8) -> bool
     ensures { result ≡ buffer_held s buffer }
 {
-    let w = s.wait;
-    let p = tasks::pending_requests(w);
-    let first = p.first;
-    let second = p.second;
-    util::either(
-        util::either(s.set.ack_buffer == buffer, s.set.spare_buffer == buffer),
-        util::either(
-            slot_has_buffer(first, buffer),
-            slot_has_buffer(second, buffer),
-        ),
-    )
-}
-
-fn is_timed(start: Timestamp) -> bool
-    ensures { result ≡ timed start }
-{
-    match start {
-        Timestamp::BestEffort => false,
-        Timestamp::Scheduled(t) => true,
-    }
+    let p = tasks::pending_requests(s.wait);
+    let is_own = s.set.ack_buffer == buffer || s.set.spare_buffer == buffer;
+    is_own || (slot_has_buffer(p.first, buffer) || slot_has_buffer(p.second, buffer))
 }
 
 fn allow(tx: Starts, rx: Starts) -> Allowed
     ensures { result ≡ allow tx rx }
 {
-    Allowed { tx: tx, rx: rx }
+    Allowed { tx, rx }
 }
 
 // The starts that a wait which asks allows.
+#[tactic(auto, unfolding(crate::specs::Requests::allowed_of))]
 pub fn allowed_in(a: Asked) -> Allowed
     ensures { result ≡ allowed_of a }
 {
     match a {
         Asked::Idle => allow(Starts::Any, Starts::Any),
-        Asked::AfterWindow(q) => allow(Starts::Any, Starts::Never),
-        Asked::AfterAckWindow(q, t) => allow(Starts::Any, Starts::BestEffort),
-        Asked::Receiving(q, i) => allow(Starts::Any, Starts::BestEffort),
-        Asked::Sending(q) => allow(Starts::BestEffort, Starts::BestEffort),
-        Asked::SendingAck(i) => allow(Starts::BestEffort, Starts::BestEffort),
-        Asked::ReceivingAck(b) => allow(Starts::Any, Starts::BestEffort),
+        Asked::AfterWindow(_) => allow(Starts::Any, Starts::Never),
+        Asked::AfterAckWindow(_, _) => allow(Starts::Any, Starts::BestEffort),
+        Asked::Receiving(_, _) => allow(Starts::Any, Starts::BestEffort),
+        Asked::Sending(_) => allow(Starts::BestEffort, Starts::BestEffort),
+        Asked::SendingAck(_) => allow(Starts::BestEffort, Starts::BestEffort),
+        Asked::ReceivingAck(_) => allow(Starts::Any, Starts::BestEffort),
     }
 }
 
+#[tactic(auto, unfolding(crate::specs::Requests::start_allowed, crate::specs::Requests::timed))]
 fn is_start_allowed(allowed: Starts, start: Timestamp) -> bool
     ensures { result ≡ start_allowed allowed start }
 {
-    match allowed {
-        Starts::Never => false,
-        Starts::BestEffort => !is_timed(start),
-        Starts::Any => true,
-    }
-}
-
-fn is_not_allowed(a: Asked, task: Task, start: Timestamp) -> bool
-    ensures { result ≡ not_allowed (allowed_of a) start task }
-{
-    let w = allowed_in(a);
-    let tx = w.tx;
-    let rx = w.rx;
-    match task {
-        Task::Tx(n, c) => !is_start_allowed(tx, start),
-        Task::Rx => !is_start_allowed(rx, start),
+    match (allowed, start) {
+        (Starts::Never, _) => false,
+        (Starts::BestEffort, Timestamp::Scheduled(_)) => false,
+        (Starts::BestEffort, Timestamp::BestEffort) => true,
+        (Starts::Any, _) => true,
     }
 }
 
 // Whether a request's direction or start is not among those allowed.
+#[tactic(auto, unfolding(crate::specs::Requests::not_allowed))]
 pub fn is_request_not_allowed(w: Allowed, q: Request) -> bool
     ensures { result ≡ not_allowed w q.start q.task }
 {
-    let task = q.task;
-    let start = q.start;
-    let tx = w.tx;
-    let rx = w.rx;
-    match task {
-        Task::Tx(n, c) => !is_start_allowed(tx, start),
-        Task::Rx => !is_start_allowed(rx, start),
+    match q.task {
+        Task::Tx(_, _) => !is_start_allowed(w.tx, q.start),
+        Task::Rx => !is_start_allowed(w.rx, q.start),
     }
 }
 
+#[tactic(auto, unfolding(crate::specs::Requests::tx_length_unfit))]
 fn is_tx_length_unfit(set: Settings, task: Task) -> bool
     ensures { result ≡ tx_length_unfit set task }
 {
     match task {
-        Task::Tx(n, c) => util::either(
-            n < 3,
-            phy::PHY_MAX_PACKET_SIZE < (n as u32) + (set.fcs_length as u32),
-        ),
+        Task::Tx(n, _) => {
+            n < 3 || phy::PHY_MAX_PACKET_SIZE < u32::from(n) + u32::from(set.fcs_length)
+        }
         Task::Rx => false,
     }
 }
 
-fn refuse_if(flag: bool, refusal: u8, later: u8) -> u8
-    ensures { result ≡ cond flag refusal later }
+// The first of refusals 6 to 8 that a request meets, whose buffer a waiting request may hold.
+fn check_request(s: State, q: Request, in_line: bool) -> Result<(), Refusal>
+    ensures { number_of result ≡ cond (token_held s.wait q.token) 6
+        (cond (leb s.set.count q.buffer || (buffer_held s q.buffer || in_line)) 7
+        (cond (tx_length_unfit s.set q.task) 8 0)) }
 {
-    if flag { refusal } else { later }
+    if is_token_held(s.wait, q.token) {
+        return Err(Refusal::TokenHeld);
+    }
+    if s.set.count <= q.buffer || (is_buffer_held(s, q.buffer) || in_line) {
+        return Err(Refusal::BufferHeld);
+    }
+    if is_tx_length_unfit(s.set, q.task) {
+        return Err(Refusal::TxLength);
+    }
+    Ok(())
 }
 
-// The first of refusals 6 to 9 that a request meets in a state that asks, or 0.
-pub fn request_refusal(s: State, a: Asked, q: Request) -> u8
-    ensures { result ≡ request_refusal s a q }
+// The first of refusals 6 to 9 that a request meets in a state that asks.
+#[tactic(auto, unfolding(crate::specs::Requests::request_refusal))]
+pub fn check_asked(s: State, a: Asked, q: Request) -> Result<(), Refusal>
+    ensures { number_of result ≡ request_refusal s a q }
 {
-    let w = s.wait;
-    let set = s.set;
-    let task = q.task;
-    let start = q.start;
-    let direction = refuse_if(is_not_allowed(a, task, start), 9, 0);
-    let length = refuse_if(is_tx_length_unfit(set, task), 8, direction);
-    let unfit = util::either(set.count <= q.buffer, buffer_held(s, q.buffer));
-    refuse_if(token_held(w, q.token), 6, refuse_if(unfit, 7, length))
+    check_request(s, q, false)?;
+    if is_request_not_allowed(allowed_in(a), q) {
+        return Err(Refusal::NotAllowed);
+    }
+    Ok(())
 }
 
-// The first of refusals 6 to 8, 12 and 13 that an arrival meets, or 0: with what the line says, whether it holds the buffer, is full,
-// and holds the token.
-pub fn arrival_refusal(s: State, q: Request, buffer: bool, full: bool, token: bool) -> u8
-    ensures { result ≡ arrival_refusal s q buffer full token }
+// The first of refusals 6 to 8, 12 and 13 that an arrival meets: with what the line says, whether it holds the buffer, is full, and
+// holds the token.
+#[tactic(auto, unfolding(crate::specs::Requests::arrival_refusal))]
+pub fn check_arrival(
+    s: State,
+    q: Request,
+    buffer: bool,
+    full: bool,
+    token: bool,
+) -> Result<(), Refusal>
+    ensures { number_of result ≡ arrival_refusal s q buffer full token }
 {
-    let w = s.wait;
-    let set = s.set;
-    let task = q.task;
-    let line = refuse_if(full, 12, refuse_if(token, 13, 0));
-    let places = refuse_if(is_tx_length_unfit(set, task), 8, line);
-    let held = util::either(buffer_held(s, q.buffer), buffer);
-    let no_buffer = util::either(set.count <= q.buffer, held);
-    refuse_if(token_held(w, q.token), 6, refuse_if(no_buffer, 7, places))
+    check_request(s, q, buffer)?;
+    if full {
+        return Err(Refusal::LineFull);
+    }
+    if token {
+        return Err(Refusal::TokenWaits);
+    }
+    Ok(())
 }

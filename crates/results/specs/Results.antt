@@ -1,6 +1,6 @@
 -- Results of radio tasks and the answers made from them: document 01, "Calls", "Waits" and refusals 5 and 10.
 -- Assumes nothing.
-use Rattle.std.specs.Prelude.{ℕ, ◌+◌, Bool, false, cond, ◌||◌, List, ltb, eqb}
+use Rattle.std.specs.Prelude.{ℕ, ◌+◌, Bool, false, cond, ◌||◌, List, ltb, eqb, ◌≡◌, Option, Some, None, Result, Ok, Err}
 use Rattle.phy.specs.Phy.{phy_max_packet_size}
 use Rattle.radio_frame.specs.declared.Settings.{Settings}
 use Rattle.radio_frame.specs.RadioFrame.{frame_head}
@@ -8,14 +8,14 @@ use Rattle.ack.specs.Ack.{acknowledges}
 use Rattle.tasks.specs.declared.RxResult.{RxResult}
 use Rattle.tasks.specs.declared.TaskResult.{TaskResult}
 use Rattle.tasks.specs.declared.Response.{Response}
-use Rattle.tasks.specs.declared.Answer.{Answer}
-use Rattle.tasks.specs.declared.Owed.{Owed}
 use Rattle.tasks.specs.declared.TxTask.{TxTask}
 use Rattle.tasks.specs.declared.RxTask.{RxTask}
 use Rattle.tasks.specs.declared.AwaitedAck.{AwaitedAck}
 use Rattle.tasks.specs.declared.Left.{Left}
 use Rattle.tasks.specs.Answers.{to_tx, to_rx}
-use Rattle.results.specs.declared.Leave.{Leave}
+use Rattle.tasks.specs.declared.Answer.{Answer}
+use Rattle.refusals.specs.declared.Refusal.{Refusal}
+use Rattle.refusals.specs.Refusals.{refusal_number}
 
 -- "10. A received length is 0 or above 127 − F"
 unfoldable pub received_unfit : Settings → RxResult → Bool
@@ -26,16 +26,26 @@ received_unfit set (RxResult.CrcError time quality) = false
 unfoldable pub received_refusal : Settings → RxResult → ℕ
 received_refusal set r = cond (received_unfit set r) 10 0
 
+-- what leaving a task comes to: its refusal, or 0, and the answer that is owed
+pub record Leave : Type 0 where
+  pub refusal : ℕ
+  pub owed : Option Answer
+
+-- as what it is returned: the answer that is owed, or the refusal
+abbrev pub Leaves : Leave → Result (Option Answer) Refusal → Type 0
+Leaves l (Ok owed) = l ≡ record { refusal = 0; owed = owed }
+Leaves l (Err refusal) = l.refusal ≡ refusal_number refusal
+
 -- "5. The call, or its outcome kind, does not fit the wait": the result is not one of the task that is left
 abbrev pub unfit_result : Leave
-unfit_result = record { refusal = 5; owed = Owed.None }
+unfit_result = record { refusal = 5; owed = None }
 
 abbrev pub nothing_owed : Leave
-nothing_owed = record { refusal = 0; owed = Owed.None }
+nothing_owed = record { refusal = 0; owed = None }
 
 -- an answer that is owed, unless it is refused
 abbrev pub owed_answer : ℕ → Answer → Leave
-owed_answer refusal answer = record { refusal = refusal; owed = Owed.One answer }
+owed_answer refusal answer = record { refusal = refusal; owed = Some answer }
 
 -- "Off has no result."
 unfoldable pub leave_off : TaskResult → Leave

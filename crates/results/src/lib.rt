@@ -2,101 +2,78 @@
 #![tactic(auto)]
 
 ghost use Rattle.std.specs.Prelude.{◌≡◌};
-ghost use Rattle.results.specs.Results.{received_unfit, received_refusal, owed_answer, leave_off, leave_receiving, leave_sending, leave_sending_ack, ack_response, ack_received, leave_receiving_ack, leave_of};
-ghost use Rattle.tasks.specs.declared.Owed.{Owed};
+ghost use Rattle.refusals.specs.Refusals.{number_of};
+ghost use Rattle.results.specs.Results.{received_unfit, received_refusal, leave_off, leave_receiving, leave_sending, leave_sending_ack, ack_response, ack_received, leave_receiving_ack, leave_of, Leaves};
 
 use radio_frame::Settings;
-use tasks::{Answer, AwaitedAck, Left, Owed, Response, RxResult, RxTask, TaskResult, TxTask};
+use refusals::Refusal;
+use tasks::{Answer, AwaitedAck, Left, Response, RxResult, RxTask, TaskResult, TxTask};
 
 // Whether a received length is refused.
+#[tactic(auto, unfolding(crate::specs::Results::received_unfit))]
 fn is_received_unfit(set: Settings, r: RxResult) -> bool
     ensures { result ≡ received_unfit set r }
 {
     match r {
-        RxResult::Frame(n, t, k) => util::either(
-            n == 0,
-            phy::PHY_MAX_PACKET_SIZE < (n as u32) + (set.fcs_length as u32),
-        ),
-        RxResult::RxWindowEnded => false,
-        RxResult::CrcError(t, k) => false,
+        RxResult::Frame(n, _, _) => {
+            n == 0 || phy::PHY_MAX_PACKET_SIZE < u32::from(n) + u32::from(set.fcs_length)
+        }
+        RxResult::RxWindowEnded | RxResult::CrcError(_, _) => false,
     }
 }
 
-// Refusal 10 where a receive result has a length that is refused, or 0.
-pub fn received_refusal(set: Settings, r: RxResult) -> u8
-    ensures { result ≡ received_refusal set r }
+// Refusal 10 where a receive result has a length that is refused.
+#[tactic(auto, unfolding(crate::specs::Results::received_refusal))]
+pub fn check_received(set: Settings, r: RxResult) -> Result<(), Refusal>
+    ensures { number_of result ≡ received_refusal set r }
 {
-    if is_received_unfit(set, r) { 10 } else { 0 }
-}
-
-// What leaving a task comes to: refusal 5 where the result is not one of that task's, 10, or 0 and the answer that is owed.
-#[derive(Clone, Copy)]
-pub struct Leave {
-    pub refusal: u8,
-    pub owed: Owed,
-}
-
-// No answer: the result does not fit (5), or nothing is owed (0).
-fn no_answer(refusal: u8) -> Leave
-    ensures { result ≡ record { refusal = refusal; owed = Owed.None } }
-{
-    Leave {
-        refusal: refusal,
-        owed: Owed::None,
+    if is_received_unfit(set, r) {
+        return Err(Refusal::ReceivedLength);
     }
+    Ok(())
 }
 
-// An answer that is owed, unless it is refused.
-fn owed_answer(refusal: u8, answer: Answer) -> Leave
-    ensures { result ≡ owed_answer refusal answer }
-{
-    Leave {
-        refusal: refusal,
-        owed: Owed::One(answer),
-    }
-}
-
-fn leave_off(r: TaskResult) -> Leave
-    ensures { result ≡ leave_off r }
+#[tactic(auto, unfolding(crate::specs::Results::leave_off))]
+fn leave_off(r: TaskResult) -> Result<Option<Answer>, Refusal>
+    ensures { Leaves (leave_off r) result }
 {
     match r {
-        TaskResult::Off => no_answer(0),
-        TaskResult::Sent(t) => no_answer(5),
-        TaskResult::Rx(x) => no_answer(5),
+        TaskResult::Off => Ok(None),
+        _ => Err(Refusal::Unfit),
     }
 }
 
 // Leaving a reception: the receive result is the answer.
-pub fn leave_receiving(set: Settings, q: RxTask, r: TaskResult) -> Leave
-    ensures { result ≡ leave_receiving set q r }
+#[tactic(auto, unfolding(crate::specs::Results::leave_receiving))]
+pub fn leave_receiving(set: Settings, q: RxTask, r: TaskResult) -> Result<Option<Answer>, Refusal>
+    ensures { Leaves (leave_receiving set q r) result }
 {
     match r {
-        TaskResult::Off => no_answer(5),
-        TaskResult::Sent(t) => no_answer(5),
-        TaskResult::Rx(x) => owed_answer(
-            received_refusal(set, x),
-            tasks::rx_answer(q, Response::Received(x)),
-        ),
+        TaskResult::Rx(x) => {
+            check_received(set, x)?;
+            Ok(Some(tasks::rx_answer(q, Response::Received(x))))
+        }
+        _ => Err(Refusal::Unfit),
     }
 }
 
-fn leave_sending(q: TxTask, r: TaskResult) -> Leave
-    ensures { result ≡ leave_sending q r }
+#[tactic(auto, unfolding(crate::specs::Results::leave_sending))]
+fn leave_sending(q: TxTask, r: TaskResult) -> Result<Option<Answer>, Refusal>
+    ensures { Leaves (leave_sending q r) result }
 {
     match r {
-        TaskResult::Off => no_answer(5),
-        TaskResult::Sent(t) => owed_answer(0, tasks::tx_answer(q, Response::Sent(t))),
-        TaskResult::Rx(x) => no_answer(5),
+        TaskResult::Sent(t) => Ok(Some(tasks::tx_answer(q, Response::Sent(t)))),
+        _ => Err(Refusal::Unfit),
     }
 }
 
-fn leave_sending_ack(r: TaskResult) -> Leave
-    ensures { result ≡ leave_sending_ack r }
+#[tactic(auto, unfolding(crate::specs::Results::leave_sending_ack))]
+fn leave_sending_ack(r: TaskResult) -> Result<Option<Answer>, Refusal>
+    ensures { Leaves (leave_sending_ack r) result }
 {
     match r {
-        TaskResult::Off => no_answer(5),
-        TaskResult::Sent(t) => no_answer(0),
-        TaskResult::Rx(x) => no_answer(5),
+        TaskResult::Sent(_) => Ok(None),
+        _ => Err(Refusal::Unfit),
     }
 }
 
@@ -113,33 +90,50 @@ fn ack_response(set: Settings, pool: &[u8], a: AwaitedAck, length: u16) -> Respo
     }
 }
 
-fn ack_received(set: Settings, pool: &[u8], a: AwaitedAck, r: RxResult) -> Leave
-    ensures { result ≡ ack_received set pool.now a r }
+#[tactic(auto, unfolding(crate::specs::Results::ack_received))]
+fn ack_received(
+    set: Settings,
+    pool: &[u8],
+    a: AwaitedAck,
+    r: RxResult,
+) -> Result<Option<Answer>, Refusal>
+    ensures { Leaves (ack_received set pool.now a r) result }
 {
-    let task = a.task;
     match r {
-        RxResult::Frame(n, t, k) => owed_answer(
-            received_refusal(set, r),
-            tasks::tx_answer(task, ack_response(set, pool, a, n)),
-        ),
-        RxResult::RxWindowEnded => no_answer(5),
-        RxResult::CrcError(t, k) => owed_answer(0, tasks::tx_answer(task, Response::Nack(a.time))),
+        RxResult::Frame(n, _, _) => {
+            check_received(set, r)?;
+            let response = ack_response(set, pool, a, n);
+            Ok(Some(tasks::tx_answer(a.task, response)))
+        }
+        RxResult::RxWindowEnded => Err(Refusal::Unfit),
+        RxResult::CrcError(_, _) => Ok(Some(tasks::tx_answer(a.task, Response::Nack(a.time)))),
     }
 }
 
-fn leave_receiving_ack(set: Settings, pool: &[u8], a: AwaitedAck, r: TaskResult) -> Leave
-    ensures { result ≡ leave_receiving_ack set pool.now a r }
+#[tactic(auto, unfolding(crate::specs::Results::leave_receiving_ack))]
+fn leave_receiving_ack(
+    set: Settings,
+    pool: &[u8],
+    a: AwaitedAck,
+    r: TaskResult,
+) -> Result<Option<Answer>, Refusal>
+    ensures { Leaves (leave_receiving_ack set pool.now a r) result }
 {
     match r {
-        TaskResult::Off => no_answer(5),
-        TaskResult::Sent(t) => no_answer(5),
         TaskResult::Rx(x) => ack_received(set, pool, a, x),
+        _ => Err(Refusal::Unfit),
     }
 }
 
-// Leaving a task with a result.
-pub fn leave_task(set: Settings, pool: &[u8], l: Left, r: TaskResult) -> Leave
-    ensures { result ≡ leave_of set pool.now r l }
+// Leaving a task with a result: the answer that is owed, if any; refusal 5 where the result is not one of that task's, or 10.
+#[tactic(auto, unfolding(crate::specs::Results::leave_of))]
+pub fn leave_task(
+    set: Settings,
+    pool: &[u8],
+    l: Left,
+    r: TaskResult,
+) -> Result<Option<Answer>, Refusal>
+    ensures { Leaves (leave_of set pool.now r l) result }
 {
     match l {
         Left::Off => leave_off(r),

@@ -1,10 +1,8 @@
 -- The starred marked rows of document 01, as one table.
 -- Assumes nothing.
-use Rattle.std.specs.Prelude.{ℕ, ◌*◌, ◌-◌, ◌/◌, ◌%◌, ◌≡◌, Bool, true, false, List, [], ◌∷◌, ◌++◌, length, take, replicate}
-use Rattle.header.specs.declared.AddressingFact.{AddressingFact}
+use Rattle.std.specs.Prelude.{ℕ, ◌*◌, ◌-◌, ◌/◌, ◌%◌, ◌≡◌, Bool, true, false, List, [], ◌∷◌, ◌++◌, length, take, replicate, Option, Some, None}
 use Rattle.header.specs.Header.{info_of}
 use Rattle.phy.specs.declared.Ifs.{Ifs}
-use Rattle.phy.specs.declared.LatestAckStart.{LatestAckStart}
 use Rattle.phy.specs.Phy.{ifs_of, latest_ack_start_of}
 use Rattle.radio_frame.specs.Settings.{buffer_length}
 use Rattle.tasks.specs.declared.Answers.{Answers}
@@ -19,6 +17,7 @@ use Rattle.tasks.specs.declared.TaskResult.{TaskResult}
 use Rattle.tasks.specs.declared.Transition.{Transition}
 use Rattle.tasks.specs.declared.Wait.{Wait}
 use Rattle.engine.specs.Step.{step_of}
+use Rattle.header.specs.declared.AddressingFields.{AddressingFields}
 
 -- "Controls are hexadecimal numbers; header bytes run to the end of the addresses." "For number 7": a frame's three bytes.
 pub data Row : Type 0 where
@@ -32,9 +31,9 @@ abbrev pub first_bytes : ℕ → ℕ → List ℕ
 first_bytes n c = take n (c % 256 ∷ c / 256 ∷ replicate 125 0)
 
 -- whether addressing is there: "when .. every PAN and address byte that control names have arrived"
-abbrev pub is_there : AddressingFact → Bool
-is_there (AddressingFact.Are fields) = true
-is_there AddressingFact.Missing = false
+abbrev pub is_there : Option AddressingFields → Bool
+is_there (Some fields) = true
+is_there None = false
 
 -- a station of three buffers, the ACK's 0 and the spare 1, that sent the frame in buffer 2 at a time with number 7, and now
 -- receives what may be its ACK
@@ -77,7 +76,7 @@ Right (control c bytes) =
 Right (spacing len ifs) = ifs_of len ≡ ifs
 Right (for_seven a b c response) =
     (quality : ℕ) → answers_for quality a b c ≡ Answers.One (record { token = 1; buffer = 2; response = response awaited.time })
-Right (entry e t) = latest_ack_start_of e ≡ LatestAckStart.At t
+Right (entry e t) = latest_ack_start_of e ≡ Some t
 
 unfoldable pub AllRight : List Row → Type 0
 AllRight [] = Unit {0}

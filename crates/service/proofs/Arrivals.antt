@@ -7,10 +7,10 @@ use mathlib.Core.List.{List, [], ◌∷◌, ◌++◌}
 use lib.Dec.{eqb}
 use lib.ListN.{length}
 use native.Mathlib.Omega.{arith}
+use Rattle.std.specs.Prelude.{Some, None}
 use Rattle.tasks.specs.declared.Request.{Request}
 use Rattle.engine.specs.Book.{has_number}
 use Rattle.engine.specs.BookClaims.{one, count}
-use Rattle.waiting_line.specs.declared.Found.{Found}
 use Rattle.waiting_line.specs.Line.{has_token, has_buffer, any_passes, earliest_of, without_earliest}
 use Rattle.service.specs.LineBook.{Arrival, earliest_in, others_in}
 use Rattle.service.specs.LineClaims.{waiting_tokens, waiting_buffers}
@@ -48,12 +48,12 @@ buffer_waits x (a ∷ rest) = ap (λ (y : Bool). eqb a.request.buffer x || y) (b
 pub record NoneIn (p : Request → Bool) (rest : List Arrival) : Type 0 where
   pub earliest : earliest_in p rest ≡ []
   pub any : any_passes p (requests_in rest) ≡ false
-  pub found : earliest_of p (requests_in rest) ≡ Found.Nothing
+  pub found : earliest_of p (requests_in rest) ≡ None
 
 pub record OneIn (p : Request → Bool) (rest : List Arrival) (a : Arrival) : Type 0 where
   pub earliest : earliest_in p rest ≡ a ∷ []
   pub any : any_passes p (requests_in rest) ≡ true
-  pub found : earliest_of p (requests_in rest) ≡ Found.Earliest a.request
+  pub found : earliest_of p (requests_in rest) ≡ Some a.request
   pub passes : p a.request ≡ true
   pub tokens : (t : ℕ) → count t (waiting_tokens rest) ≡ one t a.request.token + count t (waiting_tokens (others_in p rest))
   pub buffers : (x : ℕ) → count x (waiting_buffers rest) ≡ one x a.request.buffer + count x (waiting_buffers (others_in p rest))

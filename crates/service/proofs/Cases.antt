@@ -7,6 +7,7 @@ use mathlib.Core.List.{List, [], ◌∷◌, ◌++◌}
 use lib.Dec.{eqb}
 use lib.ListN.{length}
 use borrow.Author.Tests.{eqb-true}
+use Rattle.std.specs.Prelude.{Option, Some, None}
 use Rattle.radio_frame.specs.Settings.{settings_refusal}
 use Rattle.tasks.specs.declared.Asked.{Asked}
 use Rattle.tasks.specs.declared.Call.{Call}
@@ -14,7 +15,6 @@ use Rattle.tasks.specs.declared.Request.{Request}
 use Rattle.tasks.specs.declared.State.{State}
 use Rattle.tasks.specs.declared.Wait.{Wait}
 use Rattle.requests.specs.Requests.{allowed_of}
-use Rattle.waiting_line.specs.declared.Found.{Found}
 use Rattle.waiting_line.specs.Line.{allows, has_token, is_tx, earliest_of, without_earliest, names_tx}
 use Rattle.service.specs.declared.ServiceCall.{ServiceCall}
 use Rattle.service.specs.Service.{Served, refused_by, wait_given, line_now, unless_refused, arrive_refusal, arrive_of, withdraw_refusal, withdraw_of, take_of, request_of, allowed_waits, none_of, outbound_seen_of, call_of, service_of}
@@ -44,8 +44,8 @@ module _ (s : State) (qs : List Request) (pool : List ℕ) where
     refused : (c : ServiceCall) (k : ℕ) → eqb k 0 ≡ false → Case c (refused_by s qs pool k)
     on_line : (c : ServiceCall) (line : List Request) → OnLine c line → Case c (line_now s qs pool line)
     given : (c : ServiceCall) (d : Call) → heard s qs c ≡ d ∷ [] → ((q : Request) → wait_call q c ≡ d) → LetThrough d → Case c (wait_given s qs pool d)
-    taken : (a : Asked) (q : Request) → s.wait ≡ Wait.Asking a → earliest_of (allows (allowed_of a)) qs ≡ Found.Earliest q
-        → Case ServiceCall.Request (take_of s qs pool a (Found.Earliest q))
+    taken : (a : Asked) (q : Request) → s.wait ≡ Wait.Asking a → earliest_of (allows (allowed_of a)) qs ≡ Some q
+        → Case ServiceCall.Request (take_of s qs pool a (Some q))
 
   either_case : (c : ServiceCall) (t : Bool) (x y : Served) → (t ≡ true → Case c x) → (t ≡ false → Case c y) → Case c (cond t x y)
   either_case c true x y A B = A refl
@@ -55,10 +55,10 @@ module _ (s : State) (qs : List Request) (pool : List ℕ) where
   unfolding unless_refused
   unless_case c k r f = either_case c (eqb k 0) r (refused_by s qs pool k) (λ e. f (eqb-true k 0 e)) (refused c k)
 
-  take_case : (a : Asked) → s.wait ≡ Wait.Asking a → (f : Found) → earliest_of (allows (allowed_of a)) qs ≡ f → Case ServiceCall.Request (take_of s qs pool a f)
+  take_case : (a : Asked) → s.wait ≡ Wait.Asking a → (f : Option Request) → earliest_of (allows (allowed_of a)) qs ≡ f → Case ServiceCall.Request (take_of s qs pool a f)
   unfolding take_of
-  take_case a w Found.Nothing e = refused ServiceCall.Request 9 refl
-  take_case a w (Found.Earliest q) e = taken a q w e
+  take_case a w None e = refused ServiceCall.Request 9 refl
+  take_case a w (Some q) e = taken a q w e
 
   request_case : (w : Wait) → s.wait ≡ w → Case ServiceCall.Request (request_of s qs pool w)
   unfolding request_of

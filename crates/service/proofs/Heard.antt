@@ -6,20 +6,20 @@ use mathlib.Core.List.{List, [], ◌∷◌}
 use lib.ListN.{length}
 use native.Mathlib.Omega.{arith}
 use borrow.Author.Tests.{eqb-false}
+use Rattle.std.specs.Prelude.{Some}
 use Rattle.tasks.specs.declared.Asked.{Asked}
 use Rattle.tasks.specs.declared.Call.{Call}
 use Rattle.tasks.specs.declared.Request.{Request}
 use Rattle.tasks.specs.declared.State.{State}
 use Rattle.tasks.specs.declared.Wait.{Wait}
 use Rattle.requests.specs.Requests.{allowed_of}
-use Rattle.moves.specs.declared.Move.{Move}
+use Rattle.moves.specs.Move.{Move}
 use Rattle.asking.specs.Asking.{taken_of}
 use Rattle.engine.specs.Actions.{AcceptedActs}
 use Rattle.engine.specs.Reasons.{EveryAnswerHasItsReason, EveryQualityIsTold}
 use Rattle.engine.proofs.Table.{Legal}
 use Rattle.engine.proofs.Actions.{legal_acts, accepted_acts}
 use Rattle.engine.proofs.Reasons.{legal_reasons, reasons_carry, every_answer_has_its_reason, every_quality_is_told}
-use Rattle.waiting_line.specs.declared.Found.{Found}
 use Rattle.waiting_line.specs.Line.{allows, earliest_of}
 use Rattle.service.specs.declared.ServiceCall.{ServiceCall}
 use Rattle.service.specs.Service.{Served, wait_given, take_of, service_of}
@@ -47,7 +47,7 @@ module _ (s : State) (qs : List Request) (pool : List ℕ) where
       (record { acts = λ z. accepted_acts s pool d z; reasons = every_answer_has_its_reason s pool d; qualities = every_quality_is_told s pool d })
 
   -- the request that leaves
-  taken_right : (a : Asked) (q : Request) → s.wait ≡ Wait.Asking a → HeardRight s pool (Call.Request q) (take_of s qs pool a (Found.Earliest q))
+  taken_right : (a : Asked) (q : Request) → s.wait ≡ Wait.Asking a → HeardRight s pool (Call.Request q) (take_of s qs pool a (Some q))
   unfolding take_of taken_of
   taken_right a q w =
       let m : Move = taken_of s.set pool a q in
@@ -59,7 +59,7 @@ module _ (s : State) (qs : List Request) (pool : List ℕ) where
         qualities = reasons_carry s pool (Call.Request q) m.reply.answers R;
       }
 
-  pub taken_told : (a : Asked) (q : Request) (d : Call) → s.wait ≡ Wait.Asking a → earliest_of (allows (allowed_of a)) qs ≡ Found.Earliest q
+  pub taken_told : (a : Asked) (q : Request) (d : Call) → s.wait ≡ Wait.Asking a → earliest_of (allows (allowed_of a)) qs ≡ Some q
       → heard s qs ServiceCall.Request ≡ d ∷ [] → Call.Request q ≡ d
   taken_told a q d w f h = head_is (Call.Request q) d (sym (ap (request_heard qs) w ∙ ap request_found f) ∙ h)
 

@@ -16,7 +16,7 @@ use Rattle.tasks.specs.declared.Request.{Request}
 use Rattle.tasks.specs.declared.Reply.{Reply}
 use Rattle.tasks.specs.declared.State.{State}
 use Rattle.requests.specs.Requests.{token_held, buffer_held, tx_length_unfit}
-use Rattle.moves.specs.declared.Move.{Move}
+use Rattle.moves.specs.Move.{Move}
 use Rattle.engine.specs.Asks.{asks_after, outbound_after}
 use Rattle.engine.specs.Actions.{asks_of, outbound_open}
 use Rattle.engine.specs.Agreement.{standing}

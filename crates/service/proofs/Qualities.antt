@@ -7,6 +7,7 @@ use mathlib.Core.Bool.{Bool, true, false, cond}
 use mathlib.Core.List.{List}
 use lib.Dec.{eqb}
 use lib.ListN.{length}
+use Rattle.std.specs.Prelude.{Option, Some, None}
 use Rattle.radio_frame.specs.Settings.{settings_refusal}
 use Rattle.tasks.specs.declared.Asked.{Asked}
 use Rattle.tasks.specs.declared.Call.{Call}
@@ -18,7 +19,6 @@ use Rattle.requests.specs.Requests.{allowed_of}
 use Rattle.asking.specs.Asking.{previous_task_of, taken_of}
 use Rattle.engine.specs.Qualities.{call_with, QualityDecidesNothing}
 use Rattle.engine.proofs.Qualities.{quality_decides_nothing}
-use Rattle.waiting_line.specs.declared.Found.{Found}
 use Rattle.waiting_line.specs.Line.{allows, is_tx, earliest_of, names_tx}
 use Rattle.service.specs.declared.ServiceCall.{ServiceCall}
 use Rattle.service.specs.Service.{Served, refused_by, wait_given, unless_refused, arrive_refusal, arrive_of, withdraw_refusal, withdraw_of, take_of, request_of, allowed_waits, none_of, outbound_seen_of, call_of, service_of}
@@ -38,7 +38,7 @@ module _ (f : ℕ → ℕ) (s : State) (qs : List Request) (pool : List ℕ) whe
   unless_with k w x e = either_with (eqb k 0) w x (refused_by s qs pool k) (refused_by s qs pool k) e refl
 
   -- what a Request answers at once has no quality
-  taken_with : (a : Asked) (q : Request) → take_of s qs pool a (Found.Earliest q) ≡ served_with f (take_of s qs pool a (Found.Earliest q))
+  taken_with : (a : Asked) (q : Request) → take_of s qs pool a (Some q) ≡ served_with f (take_of s qs pool a (Some q))
   unfolding take_of taken_of previous_task_of answers_of
   taken_with Asked.Idle q = refl
   taken_with (Asked.AfterWindow p) q = refl
@@ -48,10 +48,10 @@ module _ (f : ℕ → ℕ) (s : State) (qs : List Request) (pool : List ℕ) whe
   taken_with (Asked.SendingAck i) q = refl
   taken_with (Asked.ReceivingAck b) q = refl
 
-  take_with : (a : Asked) (x : Found) → take_of s qs pool a x ≡ served_with f (take_of s qs pool a x)
+  take_with : (a : Asked) (x : Option Request) → take_of s qs pool a x ≡ served_with f (take_of s qs pool a x)
   unfolding take_of
-  take_with a Found.Nothing = refl
-  take_with a (Found.Earliest q) = taken_with a q
+  take_with a None = refl
+  take_with a (Some q) = taken_with a q
 
   request_with : (w : Wait) → request_of s qs pool w ≡ served_with f (request_of s qs pool w)
   unfolding request_of

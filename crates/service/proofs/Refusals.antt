@@ -8,6 +8,7 @@ use lib.Dec.{eqb}
 use lib.ListN.{length}
 use native.Mathlib.Omega.{arith}
 use borrow.Author.Tests.{eqb-true}
+use Rattle.std.specs.Prelude.{Some}
 use Rattle.radio_frame.specs.Settings.{pool_unfit, rooms_unfit, own_buffers_unfit, settings_refusal}
 use Rattle.tasks.specs.declared.Asked.{Asked}
 use Rattle.tasks.specs.declared.Call.{Call}
@@ -18,7 +19,6 @@ use Rattle.requests.specs.Requests.{allowed_of, arrival_refusal}
 use Rattle.engine.specs.Step.{step_of}
 use Rattle.engine.specs.Refusals.{fits, later_refusal, refusal_of, InOrder, no_reply, RefusedUnchanged}
 use Rattle.engine.proofs.Refusals.{in_order, refused_unchanged}
-use Rattle.waiting_line.specs.declared.Found.{Found}
 use Rattle.waiting_line.specs.Line.{allows, is_tx, any_passes, earliest_of, names_tx}
 use Rattle.service.specs.declared.ServiceCall.{ServiceCall}
 use Rattle.service.specs.Service.{Served, refused_by, unless_refused, arrive_refusal, arrive_of, withdraw_refusal, withdraw_of, take_of, request_of, allowed_waits, none_of, outbound_seen_of, call_of, service_of}
@@ -69,7 +69,7 @@ module _ (s : State) (qs : List Request) (pool : List ℕ) where
         go (r ∷ rs) = at (allows (allowed_of a) r) (go rs)
           where
             at : (t : Bool) → (take_of s qs pool a (earliest_of (allows (allowed_of a)) rs)).refusal ≡ cond (any_passes (allows (allowed_of a)) rs) 0 9
-                → (take_of s qs pool a (cond t (Found.Earliest r) (earliest_of (allows (allowed_of a)) rs))).refusal ≡ cond (t || any_passes (allows (allowed_of a)) rs) 0 9
+                → (take_of s qs pool a (cond t (Some r) (earliest_of (allows (allowed_of a)) rs))).refusal ≡ cond (t || any_passes (allows (allowed_of a)) rs) 0 9
             at true ih = refl
             at false ih = ih
 

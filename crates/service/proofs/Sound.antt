@@ -8,6 +8,7 @@ use lib.Dec.{eqb}
 use lib.ListN.{length}
 use native.Mathlib.Omega.{arith}
 use borrow.Author.Tests.{eqb-false}
+use Rattle.std.specs.Prelude.{Option, Some, None}
 use Rattle.radio_frame.specs.declared.Settings.{Settings}
 use Rattle.radio_frame.specs.Settings.{settings_refusal, Fit}
 use Rattle.radio_frame.proofs.Laws.{zero_if_fit}
@@ -24,7 +25,7 @@ use Rattle.tasks.specs.declared.Timestamp.{Timestamp}
 use Rattle.tasks.specs.declared.Wait.{Wait}
 use Rattle.requests.specs.Requests.{buffer_held, allow, allowed_of}
 use Rattle.asking.specs.Asking.{taken_of}
-use Rattle.moves.specs.declared.Move.{Move}
+use Rattle.moves.specs.Move.{Move}
 use Rattle.engine.specs.Step.{written_by}
 use Rattle.engine.specs.AckTurns.{AckTurns, EveryAckTurnIsDue}
 use Rattle.engine.specs.Asks.{Asks, no_ask, ask, listens}
@@ -39,7 +40,6 @@ use Rattle.engine.proofs.Table.{Legal}
 use Rattle.engine.proofs.History.{Fresh}
 use Rattle.engine.proofs.AckTurns.{taken_turns, refused_turns, every_ack_turn_is_due}
 use Rattle.engine.proofs.Sound.{legal_spaced, legal_in_order, next_spaced, next_in_order}
-use Rattle.waiting_line.specs.declared.Found.{Found}
 use Rattle.waiting_line.specs.Line.{allows, has_token, has_buffer, is_tx, any_passes, earliest_of, same_start_of, same_flag_of, names_tx, is_token}
 use Rattle.service.specs.declared.ServiceCall.{ServiceCall}
 use Rattle.service.specs.Service.{Served, outcome_in, line_now, is_named, take_of, allowed_waits, service_of}
@@ -338,20 +338,20 @@ module _ (s : State) (qs : List Request) (b : LineBook) (K : LineKept s qs b) wh
   spaced_any r p q (Action.Off rollback) h = h
 
   -- the request that leaves is fresh
-  taken_one : (a : Asked) (q : Request) → s.wait ≡ Wait.Asking a → earliest_of (allows (allowed_of a)) qs ≡ Found.Earliest q
+  taken_one : (a : Asked) (q : Request) → s.wait ≡ Wait.Asking a → earliest_of (allows (allowed_of a)) qs ≡ Some q
       → Fresh s (Call.Request q)
   taken_one a q w f = go (search_in (allows (allowed_of a)) b.waiting)
     where
-      in_line : earliest_of (allows (allowed_of a)) (requests_in b.waiting) ≡ Found.Earliest q
+      in_line : earliest_of (allows (allowed_of a)) (requests_in b.waiting) ≡ Some q
       in_line = ap (earliest_of (allows (allowed_of a))) (sym K.line) ∙ f
 
-      found : Found → Request
-      found Found.Nothing = q
-      found (Found.Earliest p) = p
+      found : Option Request → Request
+      found None = q
+      found (Some p) = p
 
-      is_found : Found → ℕ
-      is_found Found.Nothing = 0
-      is_found (Found.Earliest p) = 1
+      is_found : Option Request → ℕ
+      is_found None = 0
+      is_found (Some p) = 1
 
       go : Search (allows (allowed_of a)) b.waiting → Fresh s (Call.Request q)
       go (none n) = absurd (let z : ◌≡◌ {A = ℕ} 0 1 = ap is_found (sym n.found ∙ in_line) in omega arith)

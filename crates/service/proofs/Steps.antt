@@ -17,7 +17,7 @@ use Rattle.tasks.specs.declared.State.{State}
 use Rattle.tasks.specs.declared.Task.{Task}
 use Rattle.tasks.specs.declared.Wait.{Wait}
 use Rattle.requests.specs.Requests.{token_held, buffer_held, tx_length_unfit, arrival_refusal, allowed_of}
-use Rattle.moves.specs.declared.Move.{Move}
+use Rattle.moves.specs.Move.{Move}
 use Rattle.asking.specs.Asking.{taken_of}
 use Rattle.engine.specs.Step.{move_of, step_of}
 use Rattle.engine.specs.Refusals.{no_reply}

@@ -1,7 +1,7 @@
 -- What the wait is told at a call, and what the laws of a call on a wait then say of it: an accepted call has its action, each answer has
 -- its reason, and carries the link quality that the call tells, or none.
 -- Assumes nothing.
-use Rattle.std.specs.Prelude.{ℕ, ◌≡◌, List, [], ◌∷◌}
+use Rattle.std.specs.Prelude.{ℕ, ◌≡◌, List, [], ◌∷◌, Option, Some, None}
 use Rattle.tasks.specs.declared.Call.{Call}
 use Rattle.tasks.specs.declared.Request.{Request}
 use Rattle.tasks.specs.declared.State.{State}
@@ -10,15 +10,14 @@ use Rattle.requests.specs.Requests.{allowed_of}
 use Rattle.engine.specs.Actions.{ActsRight}
 use Rattle.engine.specs.Reasons.{Reasons, AllCarryTold}
 use Rattle.engine.specs.Refusals.{no_reply}
-use Rattle.waiting_line.specs.declared.Found.{Found}
 use Rattle.waiting_line.specs.Line.{allows, earliest_of}
 use Rattle.service.specs.declared.ServiceCall.{ServiceCall}
 use Rattle.service.specs.Service.{Served, outcome_in, service_of}
 
 -- the request that leaves at a Request, if one does
-abbrev pub request_found : Found → List Call
-request_found Found.Nothing = []
-request_found (Found.Earliest q) = Call.Request q ∷ []
+abbrev pub request_found : Option Request → List Call
+request_found None = []
+request_found (Some q) = Call.Request q ∷ []
 
 abbrev pub request_heard : List Request → Wait → List Call
 request_heard qs (Wait.Asking a) = request_found (earliest_of (allows (allowed_of a)) qs)

@@ -1,6 +1,6 @@
 -- Start and the eleven calls on state, line and pool: document 02, E1, over document 01's calls on a wait (crates/engine/specs/Step.antt).
 -- Assumes nothing.
-use Rattle.std.specs.Prelude.{ℕ, Bool, false, cond, not, ◌&&◌, ◌||◌, List, [], ◌∷◌, ◌++◌, eqb, leb, length}
+use Rattle.std.specs.Prelude.{ℕ, Bool, false, cond, not, ◌&&◌, ◌||◌, List, [], ◌∷◌, ◌++◌, eqb, leb, length, Option, Some, None}
 use Rattle.radio_frame.specs.declared.Settings.{Settings}
 use Rattle.radio_frame.specs.Settings.{settings_refusal}
 use Rattle.tasks.specs.declared.Asked.{Asked}
@@ -12,11 +12,10 @@ use Rattle.tasks.specs.declared.Timestamp.{Timestamp}
 use Rattle.tasks.specs.declared.Wait.{Wait}
 use Rattle.requests.specs.Requests.{arrival_refusal, allowed_of}
 use Rattle.asking.specs.Asking.{taken_of}
-use Rattle.engine.specs.declared.Outcome.{Outcome}
+use Rattle.engine.specs.Step.{Outcome}
 use Rattle.engine.specs.Step.{step_of, step_pool, start_of, start_pool}
 use Rattle.engine.specs.Refusals.{no_reply}
 use Rattle.engine.specs.Actions.{outbound_open}
-use Rattle.waiting_line.specs.declared.Found.{Found}
 use Rattle.waiting_line.specs.Line.{allows, has_token, has_buffer, is_tx, any_passes, earliest_of, without_earliest, names_tx, is_token}
 use Rattle.service.specs.declared.ServiceCall.{ServiceCall}
 
@@ -92,9 +91,9 @@ module _ (s : State) (qs : List Request) (pool : List ℕ) where
 
   -- "An ask takes the earliest arrival whose direction and start the wait allows"; "a Request .. that finds none such is 9". The frame's
   -- bytes are noted now, from the pool as this call finds it; "on leaving the buffer is no ground for 7".
-  unfoldable pub take_of : Asked → Found → Served
-  take_of a Found.Nothing = refused_by 9
-  take_of a (Found.Earliest q) =
+  unfoldable pub take_of : Asked → Option Request → Served
+  take_of a None = refused_by 9
+  take_of a (Some q) =
       record {
         refusal = 0;
         state = (taken_of s.set pool a q).state;

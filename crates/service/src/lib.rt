@@ -2,8 +2,7 @@
 // stand in specs.
 #![tactic(auto)]
 
-use tasks::{Cause, Reply, Request, State, StopResult, TaskResult, Timestamp};
-use waiting_line::Line;
+use tasks::{Cause, Request, StopResult, TaskResult, Timestamp};
 
 // The eleven calls. Arrive and Withdraw change the line alone; requests reach the service only by the line, so Request has no fields.
 #[derive(Clone, Copy)]
@@ -19,13 +18,4 @@ pub enum ServiceCall {
     Entered(TaskResult, u64),
     Fallback(TaskResult, Cause),
     Rollback,
-}
-
-// What a call returns: its refusal, or 0; the next state and the next line, which a refusal leaves as they were; the reply.
-#[derive(Clone, Copy)]
-pub struct ServiceOutcome {
-    pub refusal: u8,
-    pub state: State,
-    pub line: Line,
-    pub reply: Reply,
 }

@@ -1,5 +1,10 @@
 -- Reading and writing the slices; over plain values.
 -- Assumes nothing.
+use Rattle.refusals.specs.declared.Refusal.{Refusal}
+use Rattle.refusals.specs.Refusals.{number_of}
+use Rattle.slices.specs.Inner.{or_slices}
+use Rattle.std.specs.Prelude.{Ok, Err}
+use Rattle.std.proofs.Common.{Option, Some, None, ℕ, arith}
 use Prim.Native.Nat.{ℕ}
 use mathlib.Core.Path.{◌≡◌, refl, sym, ◌∙◌, ap}
 use mathlib.Core.Bool.{Bool, true, false, cond}
@@ -9,8 +14,7 @@ use lib.ListN.{length}
 use borrow.Author.Tests.{eq-eqb, eqb-true, ne_eqb}
 use Rattle.util.specs.Bytes.{stored_over}
 use Rattle.util.proofs.Stores.{over}
-use Rattle.engine.specs.declared.Outcome.{Outcome}
-use Rattle.state_bytes.specs.declared.Decoded.{Decoded}
+use Rattle.engine.specs.Step.{Outcome}
 use Rattle.state_bytes.specs.Layout.{state_at, written_state}
 use Rattle.state_bytes.specs.Valid.{holds_state, decoded_of, decoded_refusal, Decodes}
 use Rattle.state_bytes.proofs.Same.{and_left, and_right}
@@ -18,6 +22,7 @@ use Rattle.reply_bytes.specs.Reply.{written_reply}
 use Rattle.slices.specs.Slices.{slices_fit, form_ok, if_accepted}
 use Rattle.slices.specs.Inner.{read_of, ReadAs, Finished}
 use Rattle.slices.proofs.Lengths.{state_length, reply_length}
+use Rattle.tasks.specs.declared.State.{State}
 
 module _ (o : Outcome) (st re : List ℕ) where
   pub finished : (r : ℕ) (st' re' es er : List ℕ) → r ≡ o.refusal → o.refusal ≡ 0 → es ≡ written_state o.state → er ≡ written_reply o.reply
@@ -49,16 +54,16 @@ settled o st re r st' re' ok F =
     }
 
 -- ---- Reading
-abbrev pub Reads : List ℕ → ℕ → Decoded → Type 0
-Reads st n (Decoded.Valid s) = (form_ok st n ≡ true) × (s ≡ state_at st)
-Reads st n Decoded.Invalid = form_ok st n ≡ false
+abbrev pub Reads : List ℕ → ℕ → Option State → Type 0
+Reads st n (Some s) = (form_ok st n ≡ true) × (s ≡ state_at st)
+Reads st n None = form_ok st n ≡ false
 
 pub reads : (st : List ℕ) (n : ℕ) → Reads st n (read_of st n)
 unfolding read_of form_ok decoded_of
 reads st n = go (slices_fit (length st) n) (holds_state st) refl refl
   where
     go : (a b : Bool) → slices_fit (length st) n ≡ a → holds_state st ≡ b
-        → Reads st n (cond (slices_fit (length st) n) (cond (holds_state st) (Decoded.Valid (state_at st)) Decoded.Invalid) Decoded.Invalid)
+        → Reads st n (cond (slices_fit (length st) n) (cond (holds_state st) (Some (state_at st)) None) None)
     go true true p q = rw (p, q) (rw (p, q), refl)
     go true false p q = rw (p, q) (rw (p, q))
     go false b p q = rw p (rw p)
@@ -68,10 +73,23 @@ unfolding form_ok
 form_lengths st n h = and_left (slices_fit (length st) n) (holds_state st) h
 
 module _ (st : List ℕ) (n : ℕ) {fit : Bool} (e : fit ≡ slices_fit (length st) n) where
-  pub read_decoded : (r : Decoded) → Decodes st r → fit ≡ true → ReadAs st n r
-  unfolding read_of form_ok
-  read_decoded r D t = let h = sym e ∙ t in record { case = rw h D.case; refusal = rw h D.refusal }
-
-  pub read_not : fit ≡ false → ReadAs st n Decoded.Invalid
+  pub read_decoded : (r : Option State) → Decodes st r → fit ≡ true → ReadAs st n (or_slices r)
   unfolding read_of form_ok decoded_refusal
+  read_decoded r D t = let h = sym e ∙ t in record { case = rw h (ap or_slices D.case); refusal = number_of_or r ∙ rw h D.refusal }
+    where
+      number_of_or : (r : Option State) → number_of (or_slices r) ≡ decoded_refusal r
+      number_of_or (Some s) = refl
+      number_of_or None = refl
+
+  pub read_not : fit ≡ false → ReadAs st n (Err Refusal.Slices)
+  unfolding read_of form_ok
   read_not t = let h = sym e ∙ t in record { case = rw h; refusal = rw h }
+
+-- what a read state, and a refusal, say of the bytes
+pub read_ok : (o : Option State) {s : State} → Ok s ≡ or_slices o → o ≡ Some s
+read_ok (Some t) e = cc
+read_ok None e = absurd (let z : ◌≡◌ {A = ℕ} 0 1 = cc in omega arith)
+
+pub read_err : (o : Option State) {refusal : Refusal} → Err refusal ≡ or_slices o → (o ≡ None) × (refusal ≡ Refusal.Slices)
+read_err (Some t) e = absurd (let z : ◌≡◌ {A = ℕ} 0 1 = cc in omega arith)
+read_err None e = (refl, cc)

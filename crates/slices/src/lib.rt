@@ -2,41 +2,47 @@
 #![tactic(auto)]
 
 ghost use Rattle.std.specs.Prelude.{◌≡◌};
+ghost use Rattle.refusals.specs.Refusals.{number_of};
+ghost use Rattle.engine.specs.Step.{outcome_told};
+ghost use Rattle.tasks.specs.declared.State.{State};
 ghost use Rattle.slices.specs.Slices.{slices_fit};
 ghost use Rattle.slices.specs.Inner.{ReadAs, Finished};
 
-use engine::Outcome;
-use state_bytes::Decoded;
+use refusals::Refusal;
+use tasks::{Reply, State};
 
+#[tactic(auto, unfolding(crate::specs::Slices::slices_fit))]
 pub fn slices_fit(state: usize, reply: usize) -> bool
     ensures { result ≡ slices_fit state reply }
 {
-    util::both(state == 64, reply == 48)
+    state == 64 && reply == 48
 }
 
 // The state that the slice holds, unless a length is wrong.
-pub fn read(state: &[u8], reply: usize) -> Decoded
+pub fn read(state: &[u8], reply: usize) -> Result<State, Refusal>
     ensures { ReadAs state.now reply result }
 {
-    if slices_fit(state.len(), reply) {
-        state_bytes::decode(state)
-    } else {
-        Decoded::Invalid
+    if !slices_fit(state.len(), reply) {
+        return Err(Refusal::Slices);
+    }
+    match state_bytes::decode(state) {
+        Some(s) => Ok(s),
+        None => Err(Refusal::Slices),
     }
 }
 
-// Writes state and reply of an accepted outcome; returns its refusal.
-pub fn finish(o: Outcome, state: &mut [u8], reply: &mut [u8]) -> u8
-    ensures { Finished o state.old reply.old result state.new reply.new }
+// Writes state and reply of an accepted outcome.
+pub fn finish(
+    outcome: Result<(State, Reply), Refusal>,
+    state: &mut [u8],
+    reply: &mut [u8],
+) -> Result<(), Refusal>
+    ensures { (s : State) → Finished (outcome_told s outcome) state.old reply.old (number_of result) state.new reply.new }
 {
-    let refusal = o.refusal;
-    if refusal == 0 {
-        let next = o.state;
-        let answer = o.reply;
-        let new_state = state_bytes::encode(next);
-        let new_reply = reply_bytes::encode(answer);
-        util::store(&new_state, state);
-        util::store(&new_reply, reply);
-    }
-    refusal
+    let (next, answer) = outcome?;
+    let new_state = state_bytes::encode(next);
+    let new_reply = reply_bytes::encode(answer);
+    util::store(&new_state, state);
+    util::store(&new_reply, reply);
+    Ok(())
 }

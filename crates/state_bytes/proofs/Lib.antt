@@ -1,4 +1,2 @@
 pub mod Same
-pub mod Assembled
-pub mod Decodes
 pub mod RoundTrip

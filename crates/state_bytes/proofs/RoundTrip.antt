@@ -17,7 +17,8 @@ use Rattle.wait_parts.specs.Parts.{wait_parts_of, wait_at, PartFit, entered_part
 use Rattle.state_bytes.specs.Layout.{written_parts, written_state, settings_at, task_at, parts_at, state_at}
 use Rattle.state_bytes.specs.Valid.{valid_state, same_list, holds_state, SettingsFit, StateFits, ReadsBack, WrittenFrom, HeldExactly}
 use Rattle.wait_parts.proofs.RoundTrip.{wait_back, wait_fits}
-use Rattle.state_bytes.proofs.Same.{and_left, and_right, same_true, same_refl}
+use Rattle.std.proofs.lemmas.Bool.{and_parts}
+use Rattle.state_bytes.proofs.Same.{same_true, same_refl}
 
 -- ---- The bytes
 
@@ -122,11 +123,12 @@ read_from : (bytes : List ℕ) → AllBytes bytes → holds_state bytes ≡ true
 unfolding holds_state
 read_from bytes A h =
     let s = state_at bytes in
+    let both = and_parts (valid_state s) (same_list (written_state s) bytes) h in
     record {
       state = s;
       fits = state_fits bytes A;
-      valid = and_left (valid_state s) (same_list (written_state s) bytes) h;
-      written = same_true (written_state s) bytes (and_right (valid_state s) (same_list (written_state s) bytes) h);
+      valid = both.0;
+      written = same_true (written_state s) bytes both.1;
     }
 
 pub held_exactly : HeldExactly

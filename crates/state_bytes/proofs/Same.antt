@@ -1,13 +1,15 @@
 -- The test of two byte lists.
 -- Assumes nothing.
 use Prim.Native.Nat.{ℕ, zero, suc, ◌+◌, ◌<◌, ◌≤◌}
-use mathlib.Core.Path.{◌≡◌, refl, sym, ap}
+use mathlib.Core.Path.{◌≡◌, refl, sym, ap, ◌∙◌}
 use mathlib.Core.Bool.{Bool, true, false, ◌&&◌}
 use mathlib.Core.List.{List, [], ◌∷◌}
 use lib.Dec.{eqb}
 use lib.ListN.{length, get_or, drop, drop_of_length-le}
 use native.Mathlib.Omega.{arith}
-use borrow.Author.Tests.{eq-eqb, eqb-true}
+use Rattle.std.proofs.lemmas.Slice.Eq.{bytes_eq-Decides}
+use Rattle.std.specs.Cmp.Lexicographic.{pointwise}
+use Rattle.std.specs.Prelude.{nat_eq}
 use Rattle.state_bytes.specs.Valid.{same_list}
 
 pub and_left : (a b : Bool) → (a && b) ≡ true → a ≡ true
@@ -18,20 +20,19 @@ pub and_right : (a b : Bool) → (a && b) ≡ true → b ≡ true
 and_right true b h = h
 and_right false b h = cc
 
-pub same_true : (a b : List ℕ) → same_list a b ≡ true → a ≡ b
+-- what `==` says of two slices
+pub same_list_is : (a b : List ℕ) → same_list a b ≡ pointwise nat_eq a b
 unfolding same_list
-same_true [] [] h = refl
-same_true [] (y ∷ ys) h = cc
-same_true (x ∷ xs) [] h = cc
-same_true (x ∷ xs) (y ∷ ys) h =
-    let p = eqb-true x y (and_left (eqb x y) (same_list xs ys) h) in
-    let q = same_true xs ys (and_right (eqb x y) (same_list xs ys) h) in
-    cc
+same_list_is [] [] = refl
+same_list_is [] (y ∷ ys) = refl
+same_list_is (x ∷ xs) [] = refl
+same_list_is (x ∷ xs) (y ∷ ys) = ap (λ b. eqb x y && b) (same_list_is xs ys)
+
+pub same_true : (a b : List ℕ) → same_list a b ≡ true → a ≡ b
+same_true a b h = (bytes_eq-Decides a b).0 (sym (same_list_is a b) ∙ h)
 
 pub same_refl : (a : List ℕ) → same_list a a ≡ true
-unfolding same_list
-same_refl [] = refl
-same_refl (x ∷ xs) = simp (eq-eqb x x refl, same_refl xs)
+same_refl a = same_list_is a a ∙ (bytes_eq-Decides a a).1 refl
 
 -- ---- A loop that compares the lists element by element
 

@@ -1,31 +1,29 @@
 -- Which bytes are a state: document 01, refusal 1.
 -- Assumes nothing.
-use Rattle.std.specs.Prelude.{ℕ, ◌*◌, ◌^◌, ◌<◌, ◌≡◌, ◌↔◌, Bool, true, false, cond, not, ◌&&◌, List, [], ◌∷◌, ltb, eqb}
+use Rattle.std.specs.Prelude.{ℕ, ◌*◌, ◌^◌, ◌<◌, ◌≡◌, ◌↔◌, Bool, true, false, cond, not, ◌&&◌, List, [], ◌∷◌, ltb, eqb, Option, Some, None}
 use Rattle.util.specs.Bytes.{AllBytes}
 use Rattle.radio_frame.specs.declared.Settings.{Settings}
 use Rattle.radio_frame.specs.Settings.{buffer_length, settings_refusal}
-use Rattle.tasks.specs.declared.Slot.{Slot}
 use Rattle.tasks.specs.declared.State.{State}
 use Rattle.tasks.specs.Pending.{pending_of}
-use Rattle.state_bytes.specs.declared.Decoded.{Decoded}
 use Rattle.wait_parts.specs.Parts.{wait_parts_of, PartFit}
 use Rattle.state_bytes.specs.Layout.{written_state, state_at}
 
 -- ---- "some state with settings that pass 2 to 4, in-range buffers all different and open tokens different"
 
 -- an unanswered request's buffer is in range and none of the own ones (which 4 has in range and different)
-unfoldable pub slot_fits : Settings → Slot → Bool
-slot_fits set Slot.Empty = true
-slot_fits set (Slot.Held t b) = ltb b set.count && (not (eqb b set.ack_buffer) && not (eqb b set.spare_buffer))
+unfoldable pub slot_fits : Settings → Option (ℕ × ℕ) → Bool
+slot_fits set None = true
+slot_fits set (Some (t, b)) = ltb b set.count && (not (eqb b set.ack_buffer) && not (eqb b set.spare_buffer))
 
 -- two unanswered requests have different tokens and different buffers
-unfoldable pub differs_from : ℕ → ℕ → Slot → Bool
-differs_from token buffer Slot.Empty = true
-differs_from token buffer (Slot.Held t b) = not (eqb token t) && not (eqb buffer b)
+unfoldable pub differs_from : ℕ → ℕ → Option (ℕ × ℕ) → Bool
+differs_from token buffer None = true
+differs_from token buffer (Some (t, b)) = not (eqb token t) && not (eqb buffer b)
 
-unfoldable pub slots_differ : Slot → Slot → Bool
-slots_differ second Slot.Empty = true
-slots_differ second (Slot.Held t b) = differs_from t b second
+unfoldable pub slots_differ : Option (ℕ × ℕ) → Option (ℕ × ℕ) → Bool
+slots_differ second None = true
+slots_differ second (Some (t, b)) = differs_from t b second
 
 -- settings pass 2 to 4 with a pool of their own size: the length of the pool at hand is no part of a state
 unfoldable pub valid_state : State → Bool
@@ -46,16 +44,16 @@ same_list (x ∷ xs) (y ∷ ys) = eqb x y && same_list xs ys
 unfoldable pub holds_state : List ℕ → Bool
 holds_state bytes = valid_state (state_at bytes) && same_list (written_state (state_at bytes)) bytes
 
-unfoldable pub decoded_of : List ℕ → Decoded
-decoded_of bytes = cond (holds_state bytes) (Decoded.Valid (state_at bytes)) Decoded.Invalid
+unfoldable pub decoded_of : List ℕ → Option State
+decoded_of bytes = cond (holds_state bytes) (Some (state_at bytes)) None
 
 -- document 01's refusal number of each case: "1. .. the state bytes are not what some state .. is written as."
-unfoldable pub decoded_refusal : Decoded → ℕ
-decoded_refusal (Decoded.Valid s) = 0
-decoded_refusal Decoded.Invalid = 1
+unfoldable pub decoded_refusal : Option State → ℕ
+decoded_refusal (Some s) = 0
+decoded_refusal None = 1
 
 -- what decode answers: the case, and document 01's number for it
-pub record Decodes (bytes : List ℕ) (r : Decoded) : Type 0 where
+pub record Decodes (bytes : List ℕ) (r : Option State) : Type 0 where
   pub case : r ≡ decoded_of bytes
   pub refusal : decoded_refusal r ≡ cond (holds_state bytes) 0 1
 

@@ -2,110 +2,61 @@
 #![tactic(auto)]
 
 ghost use Rattle.std.specs.Prelude.{◌<◌, ◌≡◌};
-ghost use Rattle.state_bytes.specs.Layout.{settings_at, task_at, parts_at, state_at, written_parts, written_state};
+ghost use Rattle.state_bytes.specs.Layout.{settings_at, task_at, parts_at, state_at, written_task, written_parts, written_state};
 ghost use Rattle.state_bytes.specs.Valid.{slot_fits, differs_from, slots_differ, valid_state, same_list, Decodes};
 
 use radio_frame::Settings;
-use tasks::{Slot, State, TxTask};
+use tasks::{Pending, State, TxTask};
 use wait_parts::{Part, Parts};
-
-// What bytes are read as: a state, or that no valid state is written so (refusal 1).
-#[derive(Clone, Copy)]
-pub enum Decoded {
-    Valid(State),
-    Invalid,
-}
 
 // ---- Bytes
 
+// A request's token, buffer and length: 7 bytes.
+fn task_bytes(q: TxTask) -> [u8; 7]
+    ensures { result ≡ written_task q }
+{
+    let mut bytes = [0; 7];
+    bytes[..4].copy_from_slice(&util::bytes_of_u32(q.token));
+    bytes[4] = q.buffer;
+    bytes[5..].copy_from_slice(&util::bytes_of_u16(q.length));
+    bytes
+}
+
+#[tactic(auto, unfolding(crate::specs::Layout::written_parts))]
 fn encode_parts(set: Settings, p: Parts) -> [u8; 64]
     ensures { result ≡ written_parts set p }
 {
-    let implicit = util::flag_number(set.implicit_broadcast);
-    let address = util::bytes_of_u64(set.hardware_addr);
-    let pan = util::bytes_of_u16(set.pan_id);
-    let token = util::bytes_of_u32(p.case.task.token);
-    let length = util::bytes_of_u16(p.case.task.length);
-    let next_token = util::bytes_of_u32(p.next.task.token);
-    let next_length = util::bytes_of_u16(p.next.task.length);
-    let time = util::bytes_of_u64(p.case.time);
-    [
-        set.count,
-        set.headroom,
-        set.tailroom,
-        set.fcs_length,
-        address[0],
-        address[1],
-        address[2],
-        address[3],
-        address[4],
-        address[5],
-        address[6],
-        address[7],
-        pan[0],
-        pan[1],
-        implicit,
-        set.ack_buffer,
-        set.spare_buffer,
-        p.kind,
-        p.case.code,
-        p.next.code,
-        token[0],
-        token[1],
-        token[2],
-        token[3],
-        p.case.task.buffer,
-        length[0],
-        length[1],
-        next_token[0],
-        next_token[1],
-        next_token[2],
-        next_token[3],
-        p.next.task.buffer,
-        next_length[0],
-        next_length[1],
-        p.case.number,
-        p.next.number,
-        p.case.spacing,
-        time[0],
-        time[1],
-        time[2],
-        time[3],
-        time[4],
-        time[5],
-        time[6],
-        time[7],
-        0,
-        0,
-        0,
-        0,
-        0,
-        0,
-        0,
-        0,
-        0,
-        0,
-        0,
-        0,
-        0,
-        0,
-        0,
-        0,
-        0,
-        0,
-        0,
-    ]
+    let mut bytes = [0; 64];
+    bytes[0] = set.count;
+    bytes[1] = set.headroom;
+    bytes[2] = set.tailroom;
+    bytes[3] = set.fcs_length;
+    bytes[4..12].copy_from_slice(&util::bytes_of_u64(set.hardware_addr));
+    bytes[12..14].copy_from_slice(&util::bytes_of_u16(set.pan_id));
+    bytes[14] = u8::from(set.implicit_broadcast);
+    bytes[15] = set.ack_buffer;
+    bytes[16] = set.spare_buffer;
+    bytes[17] = p.kind;
+    bytes[18] = p.case.code;
+    bytes[19] = p.next.code;
+    bytes[20..27].copy_from_slice(&task_bytes(p.case.task));
+    bytes[27..34].copy_from_slice(&task_bytes(p.next.task));
+    bytes[34] = p.case.number;
+    bytes[35] = p.next.number;
+    bytes[36] = p.case.spacing;
+    bytes[37..45].copy_from_slice(&util::bytes_of_u64(p.case.time));
+    bytes
 }
 
 // The bytes that a state is written as.
+#[tactic(auto, unfolding(crate::specs::Layout::written_state))]
 pub fn encode(s: State) -> [u8; 64]
     ensures { result ≡ written_state s }
 {
-    let set = s.set;
-    let w = s.wait;
-    encode_parts(set, wait_parts::wait_parts(w))
+    encode_parts(s.set, wait_parts::wait_parts(s.wait))
 }
 
+#[tactic(auto, unfolding(crate::specs::Layout::settings_at))]
 fn settings_at(bytes: &[u8]) -> Settings
     ensures { result ≡ settings_at bytes.now }
 {
@@ -123,6 +74,7 @@ fn settings_at(bytes: &[u8]) -> Settings
 }
 
 // A request's token, buffer and length, from a place on.
+#[tactic(auto, unfolding(crate::specs::Layout::task_at))]
 fn task_at(bytes: &[u8], at: usize) -> TxTask
     requires { at < 64 }
     ensures { result ≡ task_at bytes.now at }
@@ -134,6 +86,7 @@ fn task_at(bytes: &[u8], at: usize) -> TxTask
     }
 }
 
+#[tactic(auto, unfolding(crate::specs::Layout::parts_at))]
 fn parts_at(bytes: &[u8]) -> Parts
     ensures { result ≡ parts_at bytes.now }
 {
@@ -153,106 +106,64 @@ fn parts_at(bytes: &[u8]) -> Parts
     };
     Parts {
         kind: util::byte_at(bytes, 17),
-        case: case,
-        next: next,
+        case,
+        next,
     }
 }
 
+#[tactic(auto, unfolding(crate::specs::Layout::state_at))]
 fn state_at(bytes: &[u8]) -> State
     ensures { result ≡ state_at bytes.now }
 {
-    let set = settings_at(bytes);
-    let wait = wait_parts::wait_at(parts_at(bytes));
     State {
-        set: set,
-        wait: wait,
+        set: settings_at(bytes),
+        wait: wait_parts::wait_at(parts_at(bytes)),
     }
 }
 
 // ---- Which bytes are those of a valid state
 
 // A request's buffer is in range and none of the own ones.
-fn slot_fits(set: Settings, h: Slot) -> bool
-    ensures { result ≡ slot_fits set h }
+#[tactic(auto, unfolding(crate::specs::Valid::slot_fits))]
+fn slot_fits(set: Settings, slot: Option<(u32, u8)>) -> bool
+    ensures { result ≡ slot_fits set slot }
 {
-    match h {
-        Slot::Empty => true,
-        Slot::Held(t, b) => util::both(
-            b < set.count,
-            util::both(b != set.ack_buffer, b != set.spare_buffer),
-        ),
-    }
+    slot.is_none_or(|(_, b)| b < set.count && b != set.ack_buffer && b != set.spare_buffer)
 }
 
-fn differs_from(token: u32, buffer: u8, h: Slot) -> bool
-    ensures { result ≡ differs_from token buffer h }
+#[tactic(auto, unfolding(crate::specs::Valid::differs_from))]
+fn differs_from(token: u32, buffer: u8, slot: Option<(u32, u8)>) -> bool
+    ensures { result ≡ differs_from token buffer slot }
 {
-    match h {
-        Slot::Empty => true,
-        Slot::Held(t, b) => util::both(token != t, buffer != b),
-    }
+    slot.is_none_or(|(t, b)| token != t && buffer != b)
 }
 
 // Two requests have different tokens and buffers.
-fn slots_differ(first: Slot, second: Slot) -> bool
-    ensures { result ≡ slots_differ second first }
+#[tactic(auto, unfolding(crate::specs::Valid::slots_differ))]
+fn slots_differ(p: Pending) -> bool
+    ensures { result ≡ slots_differ p.second p.first }
 {
-    match first {
-        Slot::Empty => true,
-        Slot::Held(t, b) => differs_from(t, b, second),
-    }
+    p.first.is_none_or(|(t, b)| differs_from(t, b, p.second))
 }
 
+#[tactic(auto, unfolding(crate::specs::Valid::valid_state))]
 fn is_valid_state(s: State) -> bool
     ensures { result ≡ valid_state s }
 {
     let set = s.set;
-    let w = s.wait;
-    let p = tasks::pending_requests(w);
-    let first = p.first;
-    let second = p.second;
-    let own_size = radio_frame::BUFFER_LENGTH * (set.count as u32);
-    let refusal = radio_frame::settings_refusal(set, own_size as usize);
-    util::both(
-        refusal == 0,
-        util::both(
-            util::both(slot_fits(set, first), slot_fits(set, second)),
-            slots_differ(first, second),
-        ),
-    )
-}
-
-// Whether two byte strings are the same. All bytes are looked at, whatever the first ones say: so the loop can take many at once.
-fn is_same(a: &[u8], b: &[u8]) -> bool
-    ensures { result ≡ same_list a.now b.now }
-{
-    if a.len() != b.len() {
-        return false;
-    }
-    let mut same = true;
-    let mut i = 0;
-    while i < a.len() {
-        same = util::both(same, a[i] == b[i]);
-        i = i + 1;
-    }
-    same
-}
-
-fn is_written_as(bytes: &[u8], s: State) -> bool
-    ensures { result ≡ same_list (written_state s) bytes.now }
-{
-    let written = encode(s);
-    is_same(&written, bytes)
+    let p = tasks::pending_requests(s.wait);
+    let own_size = radio_frame::BUFFER_LENGTH * u32::from(set.count);
+    radio_frame::check_settings(set, own_size as usize).is_ok()
+        && slot_fits(set, p.first)
+        && slot_fits(set, p.second)
+        && slots_differ(p)
 }
 
 // The valid state that bytes are written as.
-pub fn decode(bytes: &[u8]) -> Decoded
+#[tactic(auto, using(crate::proofs::Same::same_list_is), unfolding(crate::specs::Valid::decoded_of, crate::specs::Valid::holds_state, crate::specs::Valid::decoded_refusal))]
+pub fn decode(bytes: &[u8]) -> Option<State>
     ensures { Decodes bytes.now result }
 {
     let s = state_at(bytes);
-    if util::both(is_valid_state(s), is_written_as(bytes, s)) {
-        Decoded::Valid(s)
-    } else {
-        Decoded::Invalid
-    }
+    (is_valid_state(s) && encode(s).as_slice() == bytes).then_some(s)
 }

@@ -15,7 +15,7 @@ use Rattle.tasks.specs.declared.StopResult.{StopResult}
 use Rattle.tasks.specs.declared.TaskDirection.{TaskDirection}
 use Rattle.tasks.specs.declared.Wait.{Wait}
 use Rattle.results.specs.Results.{received_refusal}
-use Rattle.moves.specs.declared.Move.{Move}
+use Rattle.moves.specs.Move.{Move}
 use Rattle.moves.specs.Move.{unfit, accepted_of, guarded_of, ask_any, listen_on, stop_move}
 
 abbrev pub read_header : Settings → RxTask → Move

@@ -2,35 +2,37 @@
 #![tactic(auto)]
 
 ghost use Rattle.std.specs.Prelude.{◌≡◌};
+ghost use Rattle.moves.specs.Move.{made, told};
 ghost use Rattle.stopping.specs.Stopping.{read_header, frame_stopped, ask_outbound, outbound_stopped, ack_failed, ack_stopped, stopped_of, stopping_of};
 
-use moves::Move;
+use moves::Accepted;
 use radio_frame::Settings;
+use refusals::Refusal;
 use tasks::{
     Action, Answers, Asked, AwaitedAck, Call, RxTask, State, Stop, StopListening, StopResult,
     TaskDirection, Wait,
 };
 
-fn read_header(set: Settings, q: RxTask) -> Move
-    ensures { result ≡ read_header set q }
+fn read_header(set: Settings, q: RxTask) -> Accepted
+    ensures { made result ≡ read_header set q }
 {
-    moves::accepted(set, Wait::Reading(q), Action::ReadHeader, Answers::None)
+    moves::accept(set, Wait::Reading(q), Action::ReadHeader, Answers::None)
 }
 
-fn frame_stopped(s: State, q: RxTask, x: StopResult) -> Move
-    ensures { result ≡ frame_stopped s q x }
+#[tactic(auto, unfolding(crate::specs::Stopping::frame_stopped))]
+fn frame_stopped(s: State, q: RxTask, x: StopResult) -> Result<Accepted, Refusal>
+    ensures { told s result ≡ frame_stopped s q x }
 {
-    let set = s.set;
     match x {
-        StopResult::FrameStarted => read_header(set, q),
-        _ => moves::refused(s, 5),
+        StopResult::FrameStarted => Ok(read_header(s.set, q)),
+        _ => Err(Refusal::Unfit),
     }
 }
 
-fn ask_outbound(set: Settings, q: RxTask) -> Move
-    ensures { result ≡ ask_outbound set q }
+fn ask_outbound(set: Settings, q: RxTask) -> Accepted
+    ensures { made result ≡ ask_outbound set q }
 {
-    moves::accepted(
+    moves::accept(
         set,
         Wait::Asking(Asked::AfterWindow(q)),
         Action::TryReceiveRequest(TaskDirection::Outbound),
@@ -38,52 +40,49 @@ fn ask_outbound(set: Settings, q: RxTask) -> Move
     )
 }
 
-fn outbound_stopped(s: State, q: RxTask, x: StopResult) -> Move
-    ensures { result ≡ outbound_stopped s q x }
+#[tactic(auto, unfolding(crate::specs::Stopping::outbound_stopped, moves::specs::Move::guarded_of))]
+fn outbound_stopped(s: State, q: RxTask, x: StopResult) -> Result<Accepted, Refusal>
+    ensures { told s result ≡ outbound_stopped s q x }
 {
-    let set = s.set;
     match x {
-        StopResult::FrameStarted => read_header(set, q),
-        StopResult::RxWindowEnded(y) => moves::guarded(
-            s,
-            results::received_refusal(set, y),
-            ask_outbound(set, q),
-        ),
-        StopResult::Failed => moves::listen(set, q, Answers::None),
+        StopResult::FrameStarted => Ok(read_header(s.set, q)),
+        StopResult::RxWindowEnded(y) => {
+            results::check_received(s.set, y)?;
+            Ok(ask_outbound(s.set, q))
+        }
+        StopResult::Failed => Ok(moves::listen(s.set, q, Answers::None)),
     }
 }
 
 // A failure while listening for an awaited ACK: once it is stopped again without a time, a second time it does not fit.
-fn ack_failed(s: State, a: AwaitedAck, again: bool) -> Move
-    ensures { result ≡ ack_failed s a again }
+#[tactic(auto, unfolding(crate::specs::Stopping::ack_failed))]
+fn ack_failed(s: State, a: AwaitedAck, again: bool) -> Result<Accepted, Refusal>
+    ensures { told s result ≡ ack_failed s a again }
 {
-    let set = s.set;
     if again {
-        moves::refused(s, 5)
-    } else {
-        moves::stop(set, Stop::AckAgain(a), StopListening::Now)
+        return Err(Refusal::Unfit);
     }
+    Ok(moves::stop(s.set, Stop::AckAgain(a), StopListening::Now))
 }
 
 // The end of listening for an awaited ACK.
-fn ack_stopped(s: State, a: AwaitedAck, again: bool, x: StopResult) -> Move
-    ensures { result ≡ ack_stopped s a again x }
+#[tactic(auto, unfolding(crate::specs::Stopping::ack_stopped, moves::specs::Move::guarded_of))]
+fn ack_stopped(s: State, a: AwaitedAck, again: bool, x: StopResult) -> Result<Accepted, Refusal>
+    ensures { told s result ≡ ack_stopped s a again x }
 {
-    let set = s.set;
-    let task = a.task;
     match x {
-        StopResult::FrameStarted => moves::ask(set, Asked::ReceivingAck(a), Answers::None),
-        StopResult::RxWindowEnded(w) => moves::guarded(
-            s,
-            results::received_refusal(set, w),
-            moves::ask(set, Asked::AfterAckWindow(task, a.time), Answers::None),
-        ),
+        StopResult::FrameStarted => Ok(moves::ask(s.set, Asked::ReceivingAck(a), Answers::None)),
+        StopResult::RxWindowEnded(w) => {
+            results::check_received(s.set, w)?;
+            Ok(moves::ask(s.set, Asked::AfterAckWindow(a.task, a.time), Answers::None))
+        }
         StopResult::Failed => ack_failed(s, a, again),
     }
 }
 
-fn stopped(s: State, p: Stop, x: StopResult) -> Move
-    ensures { result ≡ stopped_of s x p }
+#[tactic(auto, unfolding(crate::specs::Stopping::stopped_of))]
+fn stopped(s: State, p: Stop, x: StopResult) -> Result<Accepted, Refusal>
+    ensures { told s result ≡ stopped_of s x p }
 {
     match p {
         Stop::Frame(q) => frame_stopped(s, q, x),
@@ -94,11 +93,12 @@ fn stopped(s: State, p: Stop, x: StopResult) -> Move
 }
 
 // A call in a wait for the end of listening: Stopped.
-pub fn stopping(s: State, p: Stop, c: Call) -> Move
-    ensures { result ≡ stopping_of s p c }
+#[tactic(auto, unfolding(crate::specs::Stopping::stopping_of))]
+pub fn stopping(s: State, p: Stop, c: Call) -> Result<Accepted, Refusal>
+    ensures { told s result ≡ stopping_of s p c }
 {
     match c {
         Call::Stopped(x) => stopped(s, p, x),
-        _ => moves::refused(s, 5),
+        _ => Err(Refusal::Unfit),
     }
 }

@@ -1,10 +1,10 @@
 -- The one form of answers: document 01, "Waits".
 -- Assumes nothing.
+use Rattle.std.specs.Prelude.{Option, Some, None}
 use Rattle.tasks.specs.declared.TxTask.{TxTask}
 use Rattle.tasks.specs.declared.RxTask.{RxTask}
 use Rattle.tasks.specs.declared.Response.{Response}
 use Rattle.tasks.specs.declared.Answer.{Answer}
-use Rattle.tasks.specs.declared.Owed.{Owed}
 use Rattle.tasks.specs.declared.Answers.{Answers}
 
 -- "Every answer returns one buffer": the request's, under its token
@@ -15,6 +15,6 @@ abbrev pub to_rx : RxTask → Response → Answer
 to_rx q response = record { token = q.token; buffer = q.buffer; response = response }
 
 -- what is owed, where a call gives no other answer
-unfoldable pub answers_of : Owed → Answers
-answers_of Owed.None = Answers.None
-answers_of (Owed.One a) = Answers.One a
+unfoldable pub answers_of : Option Answer → Answers
+answers_of None = Answers.None
+answers_of (Some a) = Answers.One a

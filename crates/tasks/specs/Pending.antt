@@ -1,5 +1,6 @@
 -- The unanswered requests of a wait, the token and the buffer of each: document 01, "Waits".
 -- Assumes nothing.
+use Rattle.std.specs.Prelude.{Option, ℕ, Some, None}
 use Rattle.tasks.specs.declared.TxTask.{TxTask}
 use Rattle.tasks.specs.declared.RxTask.{RxTask}
 use Rattle.tasks.specs.declared.Left.{Left}
@@ -8,45 +9,43 @@ use Rattle.tasks.specs.declared.Asked.{Asked}
 use Rattle.tasks.specs.declared.Transition.{Transition}
 use Rattle.tasks.specs.declared.Stop.{Stop}
 use Rattle.tasks.specs.declared.Wait.{Wait}
-use Rattle.tasks.specs.declared.Slot.{Slot}
-use Rattle.tasks.specs.declared.Slot.TheVariants.{Empty, Held}
 use Rattle.tasks.specs.declared.Pending.{Pending}
 
-abbrev pub tx_slot : TxTask → Slot
-tx_slot q = Held q.token q.buffer
+abbrev pub tx_slot : TxTask → Option (ℕ × ℕ)
+tx_slot q = Some (q.token, q.buffer)
 
-abbrev pub rx_slot : RxTask → Slot
-rx_slot q = Held q.token q.buffer
+abbrev pub rx_slot : RxTask → Option (ℕ × ℕ)
+rx_slot q = Some (q.token, q.buffer)
 
-unfoldable pub left_slot : Left → Slot
-left_slot Left.Off = Empty
+unfoldable pub left_slot : Left → Option (ℕ × ℕ)
+left_slot Left.Off = None
 left_slot (Left.Receiving q) = rx_slot q
 left_slot (Left.Sending q) = tx_slot q
-left_slot Left.SendingAck = Empty
+left_slot Left.SendingAck = None
 left_slot (Left.ReceivingAck a) = tx_slot a.task
 
-unfoldable pub next_slot : Next → Slot
+unfoldable pub next_slot : Next → Option (ℕ × ℕ)
 next_slot (Next.Tx q k) = tx_slot q
 next_slot (Next.Rx q) = rx_slot q
-next_slot Next.Off = Empty
+next_slot Next.Off = None
 
-unfoldable pub asked_slot : Asked → Slot
-asked_slot Asked.Idle = Empty
+unfoldable pub asked_slot : Asked → Option (ℕ × ℕ)
+asked_slot Asked.Idle = None
 asked_slot (Asked.AfterWindow q) = rx_slot q
 asked_slot (Asked.AfterAckWindow q t) = tx_slot q
 asked_slot (Asked.Receiving q i) = rx_slot q
 asked_slot (Asked.Sending q) = tx_slot q
-asked_slot (Asked.SendingAck i) = Empty
+asked_slot (Asked.SendingAck i) = None
 asked_slot (Asked.ReceivingAck a) = tx_slot a.task
 
-unfoldable pub stop_slot : Stop → Slot
+unfoldable pub stop_slot : Stop → Option (ℕ × ℕ)
 stop_slot (Stop.Frame q) = rx_slot q
 stop_slot (Stop.Outbound q) = rx_slot q
 stop_slot (Stop.Ack a) = tx_slot a.task
 stop_slot (Stop.AckAgain a) = tx_slot a.task
 
-abbrev pub alone : Slot → Pending
-alone h = record { first = h; second = Empty }
+abbrev pub alone : Option (ℕ × ℕ) → Pending
+alone h = record { first = h; second = None }
 
 unfoldable pub transition_slots : Transition → Pending
 transition_slots (Transition.Request l n) = record { first = left_slot l; second = next_slot n }

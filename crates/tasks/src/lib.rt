@@ -7,16 +7,17 @@ ghost use Rattle.tasks.specs.Pending.{left_slot, next_slot, asked_slot, stop_slo
 ghost use Rattle.tasks.specs.Answers.{to_tx, to_rx, answers_of};
 
 use phy::Ifs;
-use radio_frame::{AckSeqNum, Settings};
+use radio_frame::Settings;
 
-// When a task is to start.
-#[derive(Clone, Copy)]
+// When a task is to start. (No Option: best effort is a start, and none is missing.)
+#[derive(Clone, Copy, PartialEq, Eq)]
 pub enum Timestamp {
     BestEffort,
     Scheduled(u64),
 }
 
-// What a request asks for: to send a frame of a length without checksum, with or without a channel check, or to receive one.
+// What a request asks for: to send a frame of a length without checksum, with or without a channel check, or to receive one. (No
+// Option: these are two kinds of task.)
 #[derive(Clone, Copy)]
 pub enum Task {
     Tx(u16, bool),
@@ -56,7 +57,7 @@ pub enum StopResult {
     Failed,
 }
 
-// Why a transition fell back.
+// Why a transition fell back. (No Option: these are two causes.)
 #[derive(Clone, Copy)]
 pub enum Cause {
     Scheduling(Timestamp),
@@ -113,7 +114,7 @@ pub enum Left {
 // What the radio enters for a request, or for none. A transmit request's number is noted if its frame wants an ACK.
 #[derive(Clone, Copy)]
 pub enum Next {
-    Tx(TxTask, AckSeqNum),
+    Tx(TxTask, Option<u8>),
     Rx(RxTask),
     Off,
 }
@@ -166,13 +167,6 @@ pub struct State {
     pub wait: Wait,
 }
 
-// The spacing before a scheduled task.
-#[derive(Clone, Copy)]
-pub enum NextTaskIfs {
-    None,
-    Is(Ifs),
-}
-
 // Which requests an ask takes.
 #[derive(Clone, Copy)]
 pub enum TaskDirection {
@@ -198,8 +192,8 @@ pub enum Action {
     Listen,
     Stop(StopListening),
     ReadHeader,
-    Tx(u8, u16, bool, Timestamp, NextTaskIfs, bool),
-    Rx(u8, Timestamp, NextTaskIfs, bool),
+    Tx(u8, u16, bool, Timestamp, Option<Ifs>, bool),
+    Rx(u8, Timestamp, Option<Ifs>, bool),
     Off(bool),
 }
 
@@ -217,13 +211,6 @@ pub struct Answer {
     pub token: u32,
     pub buffer: u8,
     pub response: Response,
-}
-
-// What leaving a task owes: at most one answer.
-#[derive(Clone, Copy)]
-pub enum Owed {
-    None,
-    One(Answer),
 }
 
 // Up to two answers, the earlier request's first.
@@ -257,67 +244,65 @@ pub struct Allowed {
 
 // ---- The unanswered requests of a wait
 
-// The token and the buffer of an unanswered request.
-#[derive(Clone, Copy)]
-pub enum Slot {
-    Empty,
-    Held(u32, u8),
-}
-
 // The unanswered requests of a wait, the earlier one first.
 #[derive(Clone, Copy)]
 pub struct Pending {
-    pub first: Slot,
-    pub second: Slot,
+    pub first: Option<(u32, u8)>,
+    pub second: Option<(u32, u8)>,
 }
 
-fn left_slot(l: Left) -> Slot
+#[tactic(auto, unfolding(crate::specs::Pending::left_slot))]
+fn left_slot(l: Left) -> Option<(u32, u8)>
     ensures { result ≡ left_slot l }
 {
     match l {
-        Left::Off => Slot::Empty,
-        Left::Receiving(q) => Slot::Held(q.token, q.buffer),
-        Left::Sending(q) => Slot::Held(q.token, q.buffer),
-        Left::SendingAck => Slot::Empty,
-        Left::ReceivingAck(a) => Slot::Held(a.task.token, a.task.buffer),
+        Left::Off => None,
+        Left::Receiving(q) => Some((q.token, q.buffer)),
+        Left::Sending(q) => Some((q.token, q.buffer)),
+        Left::SendingAck => None,
+        Left::ReceivingAck(a) => Some((a.task.token, a.task.buffer)),
     }
 }
 
-fn next_slot(n: Next) -> Slot
+#[tactic(auto, unfolding(crate::specs::Pending::next_slot))]
+fn next_slot(n: Next) -> Option<(u32, u8)>
     ensures { result ≡ next_slot n }
 {
     match n {
-        Next::Tx(q, k) => Slot::Held(q.token, q.buffer),
-        Next::Rx(q) => Slot::Held(q.token, q.buffer),
-        Next::Off => Slot::Empty,
+        Next::Tx(q, _) => Some((q.token, q.buffer)),
+        Next::Rx(q) => Some((q.token, q.buffer)),
+        Next::Off => None,
     }
 }
 
-fn asked_slot(a: Asked) -> Slot
+#[tactic(auto, unfolding(crate::specs::Pending::asked_slot))]
+fn asked_slot(a: Asked) -> Option<(u32, u8)>
     ensures { result ≡ asked_slot a }
 {
     match a {
-        Asked::Idle => Slot::Empty,
-        Asked::AfterWindow(q) => Slot::Held(q.token, q.buffer),
-        Asked::AfterAckWindow(q, t) => Slot::Held(q.token, q.buffer),
-        Asked::Receiving(q, i) => Slot::Held(q.token, q.buffer),
-        Asked::Sending(q) => Slot::Held(q.token, q.buffer),
-        Asked::SendingAck(i) => Slot::Empty,
-        Asked::ReceivingAck(b) => Slot::Held(b.task.token, b.task.buffer),
+        Asked::Idle => None,
+        Asked::AfterWindow(q) => Some((q.token, q.buffer)),
+        Asked::AfterAckWindow(q, _) => Some((q.token, q.buffer)),
+        Asked::Receiving(q, _) => Some((q.token, q.buffer)),
+        Asked::Sending(q) => Some((q.token, q.buffer)),
+        Asked::SendingAck(_) => None,
+        Asked::ReceivingAck(b) => Some((b.task.token, b.task.buffer)),
     }
 }
 
-fn stop_slot(p: Stop) -> Slot
+#[tactic(auto, unfolding(crate::specs::Pending::stop_slot))]
+fn stop_slot(p: Stop) -> Option<(u32, u8)>
     ensures { result ≡ stop_slot p }
 {
     match p {
-        Stop::Frame(q) => Slot::Held(q.token, q.buffer),
-        Stop::Outbound(q) => Slot::Held(q.token, q.buffer),
-        Stop::Ack(a) => Slot::Held(a.task.token, a.task.buffer),
-        Stop::AckAgain(a) => Slot::Held(a.task.token, a.task.buffer),
+        Stop::Frame(q) => Some((q.token, q.buffer)),
+        Stop::Outbound(q) => Some((q.token, q.buffer)),
+        Stop::Ack(a) => Some((a.task.token, a.task.buffer)),
+        Stop::AckAgain(a) => Some((a.task.token, a.task.buffer)),
     }
 }
 
+#[tactic(auto, unfolding(crate::specs::Pending::transition_slots))]
 fn transition_slots(e: Transition) -> Pending
     ensures { result ≡ transition_slots e }
 {
@@ -327,55 +312,57 @@ fn transition_slots(e: Transition) -> Pending
             second: next_slot(n),
         },
         Transition::Rearm(q) => Pending {
-            first: Slot::Held(q.token, q.buffer),
-            second: Slot::Empty,
+            first: Some((q.token, q.buffer)),
+            second: None,
         },
-        Transition::AckTurn(q, i) => Pending {
-            first: Slot::Held(q.token, q.buffer),
-            second: Slot::Empty,
+        Transition::AckTurn(q, _) => Pending {
+            first: Some((q.token, q.buffer)),
+            second: None,
         },
-        Transition::AckWait(q, k) => Pending {
-            first: Slot::Held(q.token, q.buffer),
-            second: Slot::Empty,
+        Transition::AckWait(q, _) => Pending {
+            first: Some((q.token, q.buffer)),
+            second: None,
         },
     }
 }
 
 // The unanswered requests of a wait.
+#[tactic(auto, unfolding(crate::specs::Pending::pending_of))]
 pub fn pending_requests(w: Wait) -> Pending
     ensures { result ≡ pending_of w }
 {
     match w {
         Wait::Asking(a) => Pending {
             first: asked_slot(a),
-            second: Slot::Empty,
+            second: None,
         },
         Wait::Entering(e) => transition_slots(e),
         Wait::Listening(q) => Pending {
-            first: Slot::Held(q.token, q.buffer),
-            second: Slot::Empty,
+            first: Some((q.token, q.buffer)),
+            second: None,
         },
         Wait::Stopping(p) => Pending {
             first: stop_slot(p),
-            second: Slot::Empty,
+            second: None,
         },
         Wait::Reading(q) => Pending {
-            first: Slot::Held(q.token, q.buffer),
-            second: Slot::Empty,
+            first: Some((q.token, q.buffer)),
+            second: None,
         },
     }
 }
 
 // ---- Answers
 
-// An answer to a transmit request: its token, its buffer back, what it came to.
+// An answer to a transmit request: its token, its buffer back, what it came to. (One function for each kind of request: a trait over the
+// two would be longer than both.)
 pub fn tx_answer(tx: TxTask, response: Response) -> Answer
     ensures { result ≡ to_tx tx response }
 {
     Answer {
         token: tx.token,
         buffer: tx.buffer,
-        response: response,
+        response,
     }
 }
 
@@ -386,16 +373,17 @@ pub fn rx_answer(rx: RxTask, response: Response) -> Answer
     Answer {
         token: rx.token,
         buffer: rx.buffer,
-        response: response,
+        response,
     }
 }
 
 // What is owed, as the answers of a call.
-pub fn answers_of(o: Owed) -> Answers
+#[tactic(auto, unfolding(crate::specs::Answers::answers_of))]
+pub fn answers_of(o: Option<Answer>) -> Answers
     ensures { result ≡ answers_of o }
 {
     match o {
-        Owed::None => Answers::None,
-        Owed::One(a) => Answers::One(a),
+        None => Answers::None,
+        Some(a) => Answers::One(a),
     }
 }

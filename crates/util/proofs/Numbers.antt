@@ -1,12 +1,14 @@
 -- Numbers in bytes: writing and reading.
 -- Assumes nothing.
 use Prim.Native.Nat.{ℕ, zero, suc, ◌+◌, ◌*◌, ◌/◌, ◌%◌, ◌^◌, ◌≤◌, ◌<◌}
-use mathlib.Core.Path.{◌≡◌, refl, sym, ◌∙◌, ap}
-use mathlib.Core.List.{List, [], ◌∷◌}
-use lib.ListN.{get_or, take, drop}
+use mathlib.Core.Path.{◌≡◌, refl, ◌∙◌, ap}
+use mathlib.Core.List.{List, [], ◌∷◌, ◌++◌}
+use lib.ListN.{get_or, take, drop, replicate}
+use Rattle.std.proofs.lemmas.List.{drop-replicate}
 use lib.Seq.{get_or-take, get_or-drop}
-use native.Mathlib.Nat.{pow-succ', mul_assoc}
 use native.Mathlib.Omega.{arith}
+use Rattle.std.specs.Int.{to_le_bytes, w16, w32, w64}
+use borrow.Author.Rules.{rules}
 use Rattle.util.specs.Bytes.{number_at, bytes_of, AllBytes, ReadBack, FitsBytes}
 
 -- past its first byte a list is read as its rest is
@@ -49,18 +51,6 @@ fits_bytes bytes A at (suc n) =
     let high = fits_bytes bytes A (at + 1) n in
     omega arith
 
--- a number cut in two: its low n bytes, and the m bytes above them
-cut : (bytes : List ℕ) (at n m : ℕ) → number_at bytes at (n + m) ≡ number_at bytes at n + 256 ^ n * number_at bytes (at + n) m
-unfolding number_at
-cut bytes at zero m =
-    let e : at + 0 ≡ at = omega arith in
-    let f : 0 + m ≡ m = omega arith in
-    rw (e, f) (omega arith)
-cut bytes at (suc n) m =
-    let e : suc n + m ≡ suc (n + m) = omega arith in
-    let f : at + suc n ≡ at + 1 + n = omega arith in
-    rw (e, f, pow-succ' 256 n, mul_assoc 256 (256 ^ n) (number_at bytes (at + 1 + n) m), cut bytes (at + 1) n m) (omega arith)
-
 -- a part that holds all bytes of a number gives the same number
 in_part : (bytes : List ℕ) (at w k n : ℕ) → k + n ≤ w → number_at (take w (drop at bytes)) k n ≡ number_at bytes (at + k) n
 unfolding number_at
@@ -69,15 +59,37 @@ in_part bytes at w k (suc n) h =
     let e : at + (k + 1) ≡ at + k + 1 = omega arith in
     rw (get_or-take w (drop at bytes) k 0 (omega arith), get_or-drop at bytes k 0, in_part bytes at w (k + 1) n (omega arith), e)
 
--- so a number of twice n bytes is put together from the halves of the part that holds it
-pub halves :
-    (bytes field : List ℕ) (at n low high : ℕ) →
-    field ≡ take (n + n) (drop at bytes) →
-    low ≡ number_at field 0 n →
-    high ≡ number_at field n n →
-    low + 256 ^ n * high ≡ number_at bytes at (n + n)
-halves bytes field at n low high e l h =
+pub in_place : (bytes : List ℕ) (at n : ℕ) → number_at (take n (drop at bytes)) 0 n ≡ number_at bytes at n
+in_place bytes at n =
     let z : at + 0 ≡ at = omega arith in
-    let first : low ≡ number_at bytes at n = l ∙ ap (λ (f : List ℕ). number_at f 0 n) e ∙ in_part bytes at (n + n) 0 n (omega arith) ∙ ap (λ (k : ℕ). number_at bytes k n) z in
-    let second : high ≡ number_at bytes (at + n) n = h ∙ ap (λ (f : List ℕ). number_at f n n) e ∙ in_part bytes at (n + n) n n (omega arith) in
-    rw (first, second) (sym (cut bytes at n n))
+    rw (in_part bytes at n 0 n (omega arith), z)
+
+-- zeros after some bytes are read as what is past their end
+zeros : (n k : ℕ) → ◌≡◌ {A = ℕ} (get_or (replicate n 0) k 0) 0
+zeros zero k = refl
+zeros (suc n) zero = refl
+zeros (suc n) (suc k) = zeros n k
+
+past : (bytes : List ℕ) (n k : ℕ) → get_or (bytes ++ replicate n 0) k 0 ≡ get_or bytes k 0
+past [] n k = zeros n k
+past (b ∷ bytes) n zero = refl
+past (b ∷ bytes) n (suc k) = past bytes n k
+
+padded : (bytes : List ℕ) (m at n : ℕ) → number_at (bytes ++ replicate m 0) at n ≡ number_at bytes at n
+unfolding number_at
+padded bytes m at zero = refl
+padded bytes m at (suc n) = rw (past bytes m at, padded bytes m (at + 1) n)
+
+-- so the bytes from a place on, with zeros for those past the end, give the same number
+pub from_place : (bytes field : List ℕ) (at j n : ℕ) → field ≡ take n (drop at bytes) → number_at (field ++ drop j (replicate n 0)) 0 n ≡ number_at bytes at n
+from_place bytes field at j n e = rw (drop-replicate, e, padded) (in_place bytes at n)
+
+-- std's bytes of a number are the definition's
+pub le_bytes_2 : (v : ℕ) → to_le_bytes w16 v ≡ bytes_of 2 v
+le_bytes_2 v = search rules
+
+pub le_bytes_4 : (v : ℕ) → to_le_bytes w32 v ≡ bytes_of 4 v
+le_bytes_4 v = search rules
+
+pub le_bytes_8 : (v : ℕ) → to_le_bytes w64 v ≡ bytes_of 8 v
+le_bytes_8 v = search rules

@@ -1,36 +1,18 @@
-// Total helpers: flags, and reading and writing a byte slice at any place, inside it or not.
+// Total helpers: reading and writing a byte slice at any place, inside it or not.
 #![tactic(auto)]
 
-ghost use Rattle.std.specs.Prelude.{◌≡◌, ◌&&◌, ◌||◌, get_or, set, take, drop};
-ghost use Rattle.util.specs.Bytes.{flag_number, stored_over, number_at, bytes_of};
-
-pub fn both(a: bool, b: bool) -> bool
-    ensures { result ≡ (a && b) }
-{
-    if a { b } else { false }
-}
-
-pub fn either(a: bool, b: bool) -> bool
-    ensures { result ≡ (a || b) }
-{
-    if a { true } else { b }
-}
-
-// A flag as a number: 1 or 0.
-pub fn flag_number(flag: bool) -> u8
-    ensures { result ≡ flag_number flag }
-{
-    if flag { 1 } else { 0 }
-}
+ghost use Rattle.std.specs.Prelude.{◌≡◌, get_or, set, take, drop};
+ghost use Rattle.util.specs.Bytes.{stored_over, number_at, bytes_of};
 
 // The byte at a place, and 0 past the end.
 pub fn byte_at(s: &[u8], at: usize) -> u8
     ensures { result ≡ get_or s.now at 0 }
 {
-    if at < s.len() { s[at] } else { 0 }
+    s.get(at).copied().unwrap_or(0)
 }
 
-// Writes a byte at a place, and nothing past the end.
+// Writes a byte at a place, and nothing past the end. A test, since the clause of `get_mut` says nothing of the slice at `None`.
+#[tactic(auto, using(std::proofs::lemmas::List::set_past))]
 pub fn put(s: &mut [u8], at: usize, v: u8)
     ensures { s.new ≡ set s.old at v }
 {
@@ -40,6 +22,7 @@ pub fn put(s: &mut [u8], at: usize, v: u8)
 }
 
 // Writes src over dst, where the two are as long.
+#[tactic(auto, unfolding(crate::specs::Bytes::stored_over))]
 pub fn store(src: &[u8], dst: &mut [u8])
     ensures { dst.new ≡ stored_over src.now dst.old }
 {
@@ -52,73 +35,58 @@ pub fn store(src: &[u8], dst: &mut [u8])
 pub fn part(s: &[u8], at: usize, n: usize) -> &[u8]
     ensures { result.now ≡ take n (drop at s.now) }
 {
-    if s.len() <= at {
-        return &s[s.len()..];
-    }
-    if s.len() - at <= n {
-        return &s[at..];
-    }
-    let end = at + n;
-    &s[at..end]
+    let rest = &s[at.min(s.len())..];
+    &rest[..n.min(rest.len())]
 }
 
-// The number in the bytes from a place on, the low one first; a byte past the end reads as 0.
+// The N bytes from a place on; a byte past the end reads as 0.
+#[tactic(auto, using(crate::proofs::Numbers::from_place))]
+fn bytes_at<const N: usize>(s: &[u8], at: usize) -> [u8; N]
+    ensures { number_at result 0 N ≡ number_at s.now at N }
+{
+    let found = part(s, at, N);
+    let mut bytes = [0; N];
+    bytes[..found.len()].copy_from_slice(found);
+    bytes
+}
+
+// The number in the bytes from a place on, the low one first; a byte past the end reads as 0. One function for each width, as std has.
+#[tactic(auto, unfolding(crate::specs::Bytes::number_at))]
 pub fn u16_at(bytes: &[u8], at: usize) -> u16
     ensures { result ≡ number_at bytes.now at 2 }
 {
-    let field = part(bytes, at, 2);
-    let low = byte_at(field, 0) as u16;
-    let high = byte_at(field, 1) as u16;
-    low + 256 * high
+    u16::from_le_bytes(bytes_at(bytes, at))
 }
 
+#[tactic(auto, unfolding(crate::specs::Bytes::number_at))]
 pub fn u32_at(bytes: &[u8], at: usize) -> u32
     ensures { result ≡ number_at bytes.now at 4 }
 {
-    let field = part(bytes, at, 4);
-    let low = u16_at(field, 0) as u32;
-    let high = u16_at(field, 2) as u32;
-    low + 0x1_0000 * high
+    u32::from_le_bytes(bytes_at(bytes, at))
 }
 
+#[tactic(auto, unfolding(crate::specs::Bytes::number_at))]
 pub fn u64_at(bytes: &[u8], at: usize) -> u64
     ensures { result ≡ number_at bytes.now at 8 }
 {
-    let field = part(bytes, at, 8);
-    let low = u32_at(field, 0) as u64;
-    let high = u32_at(field, 4) as u64;
-    low + 0x1_0000_0000 * high
+    u64::from_le_bytes(bytes_at(bytes, at))
 }
 
-// The bytes of a number, the low one first.
+// The bytes of a number, the low one first: std's method of each width, by the name that the layouts give what it writes.
 pub fn bytes_of_u16(v: u16) -> [u8; 2]
     ensures { result ≡ bytes_of 2 v }
 {
-    let b0 = (v % 256) as u8;
-    let b1 = (v / 256 % 256) as u8;
-    [b0, b1]
+    u16::to_le_bytes(v)
 }
 
 pub fn bytes_of_u32(v: u32) -> [u8; 4]
     ensures { result ≡ bytes_of 4 v }
 {
-    let b0 = (v % 256) as u8;
-    let b1 = (v / 256 % 256) as u8;
-    let b2 = (v / 256 / 256 % 256) as u8;
-    let b3 = (v / 256 / 256 / 256 % 256) as u8;
-    [b0, b1, b2, b3]
+    u32::to_le_bytes(v)
 }
 
 pub fn bytes_of_u64(v: u64) -> [u8; 8]
     ensures { result ≡ bytes_of 8 v }
 {
-    let b0 = (v % 256) as u8;
-    let b1 = (v / 256 % 256) as u8;
-    let b2 = (v / 256 / 256 % 256) as u8;
-    let b3 = (v / 256 / 256 / 256 % 256) as u8;
-    let b4 = (v / 256 / 256 / 256 / 256 % 256) as u8;
-    let b5 = (v / 256 / 256 / 256 / 256 / 256 % 256) as u8;
-    let b6 = (v / 256 / 256 / 256 / 256 / 256 / 256 % 256) as u8;
-    let b7 = (v / 256 / 256 / 256 / 256 / 256 / 256 / 256 % 256) as u8;
-    [b0, b1, b2, b3, b4, b5, b6, b7]
+    u64::to_le_bytes(v)
 }

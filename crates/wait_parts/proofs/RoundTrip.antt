@@ -1,11 +1,11 @@
 -- A wait is read back from its numbers, and numbers that fit are read as a wait whose numbers fit.
 -- Assumes nothing.
+use Rattle.std.proofs.Common.{Some, None}
 use Prim.Native.Nat.{ℕ}
 use mathlib.Core.Path.{◌≡◌, refl, ◌∙◌, ap}
 use native.Mathlib.Omega.{arith}
 use Rattle.phy.specs.declared.Ifs.{Ifs}
 use Rattle.phy.specs.Phy.{ifs_code}
-use Rattle.radio_frame.specs.declared.AckSeqNum.{AckSeqNum}
 use Rattle.tasks.specs.declared.Asked.{Asked}
 use Rattle.tasks.specs.declared.Left.{Left}
 use Rattle.tasks.specs.declared.Next.{Next}
@@ -45,8 +45,8 @@ left_back (Left.ReceivingAck a) = refl
 next_back : (n : Next) → next_at (entered_part (next_part n)) (next_part n).code ≡ n
 unfolding next_at next_part tx_part
 next_back Next.Off = refl
-next_back (Next.Tx q AckSeqNum.None) = refl
-next_back (Next.Tx q (AckSeqNum.Is k)) = refl
+next_back (Next.Tx q None) = refl
+next_back (Next.Tx q (Some k)) = refl
 next_back (Next.Rx q) = refl
 
 stop_back : (p : Stop) → stop_at (stop_part p) (stop_part p).code ≡ p

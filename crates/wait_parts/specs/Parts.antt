@@ -1,10 +1,9 @@
 -- A wait as numbers: docs/LAYOUTS.md, "The state's 64 bytes", the tables of kinds and cases. Each table is written twice: which
 -- numbers a case is written as, and, as a list in the codes' order, which case the codes stand for.
 -- Assumes nothing.
-use Rattle.std.specs.Prelude.{ℕ, ◌^◌, ◌<◌, ◌≡◌, List, [], ◌∷◌, get_or}
+use Rattle.std.specs.Prelude.{ℕ, ◌^◌, ◌<◌, ◌≡◌, List, [], ◌∷◌, get_or, Option, Some, None}
 use Rattle.phy.specs.declared.Ifs.{Ifs}
 use Rattle.phy.specs.Phy.{ifs_code}
-use Rattle.radio_frame.specs.declared.AckSeqNum.{AckSeqNum}
 use Rattle.tasks.specs.declared.Asked.{Asked}
 use Rattle.tasks.specs.declared.AwaitedAck.{AwaitedAck}
 use Rattle.tasks.specs.declared.Left.{Left}
@@ -46,9 +45,9 @@ left_part (Left.Sending q) = part_of 2 q 0 0 0
 left_part Left.SendingAck = part_of 3 no_task 0 0 0
 left_part (Left.ReceivingAck a) = part_of 4 a.task a.number 0 a.time
 
-unfoldable pub tx_part : TxTask → AckSeqNum → Part
-tx_part q AckSeqNum.None = part_of 1 q 0 0 0
-tx_part q (AckSeqNum.Is k) = part_of 2 q k 0 0
+unfoldable pub tx_part : TxTask → Option ℕ → Part
+tx_part q None = part_of 1 q 0 0 0
+tx_part q (Some k) = part_of 2 q k 0 0
 
 unfoldable pub next_part : Next → Part
 next_part Next.Off = part_of 0 no_task 0 0 0
@@ -115,7 +114,7 @@ left_at p code = get_or (left_table p) code (Left.ReceivingAck (ack_at p))
 
 abbrev pub next_table : Part → List Next
 next_table p =
-    Next.Off ∷ Next.Tx p.task AckSeqNum.None ∷ Next.Tx p.task (AckSeqNum.Is p.number) ∷ []
+    Next.Off ∷ Next.Tx p.task None ∷ Next.Tx p.task (Some p.number) ∷ []
 
 unfoldable pub next_at : Part → ℕ → Next
 next_at p code = get_or (next_table p) code (Next.Rx (rx_at p))

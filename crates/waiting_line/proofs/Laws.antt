@@ -1,115 +1,123 @@
--- A line by value and the list of its requests: what a test marks, one more request, and the four records.
+-- Facts on the line as a list and on runs of records, and the laws that specs/Line.antt states.
 -- Assumes nothing.
-use mathlib.Core.Path.{◌≡◌, refl}
-use mathlib.Core.Bool.{Bool, true, false, cond, not}
-use mathlib.Core.List.{List, [], ◌∷◌, ◌++◌}
-use lib.Dec.{leb}
-use lib.ListN.{length}
+use Rattle.std.proofs.Common.{ℕ, zero, suc, ◌≡◌, ◌+◌, ◌<◌, ◌≤◌, Bool, true, false, cond, not, List, [], ◌∷◌, ◌++◌, length, take, get_or, leb, refl, None, Some, Option, append-nil, ap, ◌∙◌, arith}
+use Rattle.std.specs.Prelude.{remove, position, find, slice_get}
+use Rattle.std.specs.List.{position_or_len}
+use Rattle.std.specs.Set.{remove_key}
+use Rattle.std.proofs.lemmas.Grind.{common_steps}
+use Rattle.std.proofs.lemmas.Option.{slice_get_past}
+use Rattle.std.proofs.lemmas.List.{take_all}
+use Rattle.std.proofs.lemmas.List.Folds.{find_at}
 use Rattle.tasks.specs.declared.Request.{Request}
 use Rattle.tasks.specs.declared.Starts.{Starts}
 use Rattle.tasks.specs.declared.Task.{Task}
 use Rattle.requests.specs.Requests.{allow, start_allowed, not_allowed}
 use Rattle.waiting_line.specs.declared.Place.{Place}
-use Rattle.waiting_line.specs.declared.Place.TheVariants.{Free, Waits}
 use Rattle.waiting_line.specs.declared.RequestRecord.{RequestRecord}
-use Rattle.waiting_line.specs.declared.Records.{Records}
-use Rattle.waiting_line.specs.declared.Line.{Line}
-use Rattle.waiting_line.specs.declared.Line.TheVariants.{Zero, One, Two, Three, Four}
-use Rattle.waiting_line.specs.Line.{requests_of, waits_at, records, is_transmit, any_passes, earliest_of, without_earliest, RecordsKeepLine, TxExactly}
-use Rattle.waiting_line.specs.Inner.{marks_of, any_marked, earliest_marked, without_marked, pushed_of, placed_of, records_of}
+use Rattle.waiting_line.specs.Line.{waits_at, waiting, records, is_transmit, RecordsKeepLine, TxExactly}
 
--- ---- What a test marks, of any test
+-- ---- The first that passes a test, by its place
 
-pub any_marked_lem : (p : Request → Bool) (l : Line) → any_marked (marks_of p l) ≡ any_passes p (requests_of l)
-unfolding marks_of
-any_marked_lem p Zero = refl
-any_marked_lem p (One a) = refl
-any_marked_lem p (Two a b) = refl
-any_marked_lem p (Three a b c) = refl
-any_marked_lem p (Four a b c d) = refl
+module _ {X : Type 0} (p : X → Bool) where
+  removed_at : (xs : List X) → position_or_len p xs < length xs → remove xs (position_or_len p xs) ≡ remove_key p xs
+  removed_at [] h = absurd (omega arith)
+  removed_at (x ∷ xs) h = go (p x) (removed_at xs) h
+    where
+      go : (b : Bool) → (position_or_len p xs < length xs → remove xs (position_or_len p xs) ≡ remove_key p xs)
+          → cond (not b) (1 + position_or_len p xs) 0 < length (x ∷ xs)
+          → remove (x ∷ xs) (cond (not b) (1 + position_or_len p xs) 0) ≡ cond b xs (x ∷ remove_key p xs)
+      go true rest h = refl
+      go false rest h =
+          let e : 1 + position_or_len p xs ≡ suc (position_or_len p xs) = omega arith in
+          rw e (ap (λ ys. x ∷ ys) (rest (omega arith)))
 
-pub earliest_marked_lem : (p : Request → Bool) (l : Line) → earliest_marked (marks_of p l) l ≡ earliest_of p (requests_of l)
-unfolding marks_of earliest_marked
-earliest_marked_lem p Zero = refl
-earliest_marked_lem p (One a) = refl
-earliest_marked_lem p (Two a b) = refl
-earliest_marked_lem p (Three a b c) = refl
-earliest_marked_lem p (Four a b c d) = refl
+  -- nothing leaves where none passes
+  pub none_leaves : (xs : List X) → find p xs ≡ None → remove_key p xs ≡ xs
+  none_leaves [] e = refl
+  none_leaves (x ∷ xs) e = go (p x) (none_leaves xs) e
+    where
+      go : (b : Bool) → (find p xs ≡ None → remove_key p xs ≡ xs) → cond b (Some x) (find p xs) ≡ None
+          → cond b xs (x ∷ remove_key p xs) ≡ x ∷ xs
+      go true rest e = cc
+      go false rest e = ap (λ ys. x ∷ ys) (rest e)
 
--- one of two lines, by a flag: what both begin with stays in front
-if_line :
-    {A : Type 0} (g : A → List Request) (f : List Request → List Request) (z : Bool) {l m : A} {xs ys : List Request} →
-    g l ≡ f xs → g m ≡ f ys → g (cond z l m) ≡ f (cond z xs ys)
-if_line g f true e₁ e₂ = e₁
-if_line g f false e₁ e₂ = e₂
+  pub first_at : (xs : List X) (i : ℕ) → position p xs ≡ Some i → (slice_get xs i ≡ find p xs) × (remove xs i ≡ remove_key p xs)
+  first_at xs i e = (grind (arith, common_steps, find_at p xs), grind (arith, common_steps, removed_at xs))
 
-pub without_marked_lem : (p : Request → Bool) (l : Line) → requests_of (without_marked (marks_of p l) l) ≡ without_earliest p (requests_of l)
-unfolding marks_of without_marked
-without_marked_lem p Zero = refl
-without_marked_lem p (One a) = if_line requests_of (λ x. x) (p a) refl refl
-without_marked_lem p (Two a b) = if_line requests_of (λ x. x) (p a) refl (if_line requests_of (λ x. a ∷ x) (p b) refl refl)
-without_marked_lem p (Three a b c) =
-    if_line requests_of (λ x. x) (p a) refl
-    (if_line requests_of (λ x. a ∷ x) (p b) refl (if_line requests_of (λ x. a ∷ b ∷ x) (p c) refl refl))
-without_marked_lem p (Four a b c d) =
-    if_line requests_of (λ x. x) (p a) refl
-    (if_line requests_of (λ x. a ∷ x) (p b) refl
-    (if_line requests_of (λ x. a ∷ b ∷ x) (p c) refl (if_line requests_of (λ x. a ∷ b ∷ c ∷ x) (p d) refl refl)))
+  pub no_first : (xs : List X) → position p xs ≡ None → (find p xs ≡ None) × (remove_key p xs ≡ xs)
+  no_first xs e =
+      let none = find_at p xs ∙ slice_get_past xs _ (grind (arith, common_steps)) in
+      (none, none_leaves xs none)
 
--- ---- One more request
+-- ---- Runs of records
 
-pub pushed_behind :
-    (q : Request) (l : Line) →
-    requests_of (pushed_of q l) ≡ cond (leb 4 (length (requests_of l))) (requests_of l) (requests_of l ++ q ∷ [])
-unfolding pushed_of
-pushed_behind q Zero = refl
-pushed_behind q (One a) = refl
-pushed_behind q (Two a b) = refl
-pushed_behind q (Three a b c) = refl
-pushed_behind q (Four a b c d) = refl
+-- one record more
+waiting_more : (rs : List RequestRecord) (i : ℕ) (d : RequestRecord) → i < length rs
+    → waiting (take (suc i) rs) ≡ waiting (take i rs) ++ waits_at (get_or rs i d).place []
+waiting_more [] i d h = absurd (omega arith)
+waiting_more (r ∷ rs) zero d h = refl
+waiting_more (r ∷ rs) (suc i) d h = go r.place (waiting_more rs i d (omega arith))
+  where
+    go : (p : Place) → waiting (take (suc i) rs) ≡ waiting (take i rs) ++ waits_at (get_or rs i d).place []
+        → waits_at p (waiting (take (suc i) rs)) ≡ waits_at p (waiting (take i rs)) ++ waits_at (get_or rs i d).place []
+    go Place.Free e = e
+    go (Place.Waits q) e = ap (λ qs. q ∷ qs) e
 
--- ---- The four records
+-- a line, with what waits at a place
+abbrev pub with_place : List Request → Place → List Request
+with_place qs Place.Free = qs
+with_place qs (Place.Waits q) = cond (leb 4 (length qs)) qs (qs ++ q ∷ [])
 
--- four places, put one after the other into a line
-pub placed_waiting :
-    (a b c d : Place) →
-    requests_of (placed_of (placed_of (placed_of (placed_of Zero a) b) c) d) ≡ waits_at a (waits_at b (waits_at c (waits_at d [])))
-unfolding placed_of pushed_of
-placed_waiting Free Free Free Free = refl
-placed_waiting Free Free Free (Waits d) = refl
-placed_waiting Free Free (Waits c) Free = refl
-placed_waiting Free Free (Waits c) (Waits d) = refl
-placed_waiting Free (Waits b) Free Free = refl
-placed_waiting Free (Waits b) Free (Waits d) = refl
-placed_waiting Free (Waits b) (Waits c) Free = refl
-placed_waiting Free (Waits b) (Waits c) (Waits d) = refl
-placed_waiting (Waits a) Free Free Free = refl
-placed_waiting (Waits a) Free Free (Waits d) = refl
-placed_waiting (Waits a) Free (Waits c) Free = refl
-placed_waiting (Waits a) Free (Waits c) (Waits d) = refl
-placed_waiting (Waits a) (Waits b) Free Free = refl
-placed_waiting (Waits a) (Waits b) Free (Waits d) = refl
-placed_waiting (Waits a) (Waits b) (Waits c) Free = refl
-placed_waiting (Waits a) (Waits b) (Waits c) (Waits d) = refl
+four_more : (qs : List Request) (p : Place) → take 4 (qs ++ waits_at p []) ≡ with_place (take 4 qs) p
+four_more qs Place.Free = ap (take 4) (append-nil qs)
+four_more [] (Place.Waits q) = refl
+four_more (a ∷ []) (Place.Waits q) = refl
+four_more (a ∷ b ∷ []) (Place.Waits q) = refl
+four_more (a ∷ b ∷ c ∷ []) (Place.Waits q) = refl
+four_more (a ∷ b ∷ c ∷ d ∷ qs) (Place.Waits q) = refl
 
-abbrev pub listed : Records → List RequestRecord
-listed r = r.first ∷ r.second ∷ r.third ∷ r.fourth ∷ []
+pub placed_more : (rs : List RequestRecord) (i : ℕ) (d : RequestRecord) → i < length rs
+    → take 4 (waiting (take (suc i) rs)) ≡ with_place (take 4 (waiting (take i rs))) (get_or rs i d).place
+placed_more rs i d h = ap (take 4) (waiting_more rs i d h) ∙ four_more (waiting (take i rs)) (get_or rs i d).place
 
-pub records_listed : (l : Line) → listed (records_of l) ≡ records 4 (requests_of l)
-unfolding records_of
-records_listed Zero = refl
-records_listed (One a) = refl
-records_listed (Two a b) = refl
-records_listed (Three a b c) = refl
-records_listed (Four a b c d) = refl
+length-waiting : (rs : List RequestRecord) → length (waiting rs) ≤ length rs
+length-waiting [] = omega arith
+length-waiting (r ∷ rs) = go r.place (length-waiting rs)
+  where
+    go : (p : Place) → length (waiting rs) ≤ length rs → length (waits_at p (waiting rs)) ≤ length (r ∷ rs)
+    go Place.Free h = omega arith
+    go (Place.Waits q) h = omega arith
 
--- ---- The laws that specs/Line.antt states
+-- a line has room for all that waits in four records
+pub all_waiting : (rs : List RequestRecord) → length rs ≤ 4 → take 4 (waiting rs) ≡ waiting rs
+all_waiting rs h = take_all 4 (waiting rs) (omega (arith, length-waiting rs))
+
+pub length-records : (n : ℕ) (qs : List Request) → length (records n qs) ≡ n
+length-records zero qs = refl
+length-records (suc n) [] = ap (λ m. suc m) (length-records n [])
+length-records (suc n) (q ∷ qs) = ap (λ m. suc m) (length-records n qs)
+
+-- the place of a run where the i-th of a line stands
+abbrev pub place_for : Option Request → Place
+place_for None = Place.Free
+place_for (Some q) = Place.Waits q
+
+pub record_at : (n : ℕ) (qs : List Request) (i : ℕ) (d : RequestRecord) → i < n → get_or (records n qs) i d ≡ record { place = place_for (slice_get qs i) }
+record_at zero qs i d h = absurd (omega arith)
+record_at (suc n) [] zero d h = refl
+record_at (suc n) [] (suc i) d h = record_at n [] i d (omega arith)
+record_at (suc n) (q ∷ qs) zero d h = refl
+record_at (suc n) (q ∷ qs) (suc i) d h = record_at n qs i d (omega arith)
+
+-- ---- The laws
+
 pub records_keep_line : RecordsKeepLine
-records_keep_line Zero = refl
-records_keep_line (One a) = refl
-records_keep_line (Two a b) = refl
-records_keep_line (Three a b c) = refl
-records_keep_line (Four a b c d) = refl
+records_keep_line [] h = refl
+records_keep_line (a ∷ []) h = refl
+records_keep_line (a ∷ b ∷ []) h = refl
+records_keep_line (a ∷ b ∷ c ∷ []) h = refl
+records_keep_line (a ∷ b ∷ c ∷ d ∷ []) h = refl
+records_keep_line (a ∷ b ∷ c ∷ d ∷ e ∷ qs) h = absurd (omega arith)
 
 pub tx_exactly : TxExactly
 unfolding not_allowed start_allowed

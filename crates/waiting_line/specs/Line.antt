@@ -1,7 +1,9 @@
 -- The waiting line as a list of requests in the order of their arrival, and as a run of records: document 02, E1.
 -- Assumes nothing.
-use Rattle.std.specs.Prelude.{ℕ, zero, suc, ◌≡◌, Bool, true, false, cond, not, ◌&&◌, ◌||◌, List, [], ◌∷◌, eqb}
+use Rattle.std.specs.Prelude.{ℕ, zero, suc, ◌≡◌, ◌≤◌, Bool, true, false, not, ◌&&◌, List, [], ◌∷◌, eqb, length, Option, Some, None, find}
 use Rattle.std.specs.Bool.{beq}
+use Rattle.std.specs.List.{list_any}
+use Rattle.std.specs.Set.{remove_key}
 use Rattle.tasks.specs.declared.Allowed.{Allowed}
 use Rattle.tasks.specs.declared.Request.{Request}
 use Rattle.tasks.specs.declared.Starts.TheVariants.{Never, Any}
@@ -10,19 +12,8 @@ use Rattle.tasks.specs.declared.Timestamp.{Timestamp}
 use Rattle.requests.specs.Requests.{allow, not_allowed}
 use Rattle.waiting_line.specs.declared.Place.{Place}
 use Rattle.waiting_line.specs.declared.RequestRecord.{RequestRecord}
-use Rattle.waiting_line.specs.declared.Line.{Line}
-use Rattle.waiting_line.specs.declared.Line.TheVariants.{Zero, One, Two, Three, Four}
-use Rattle.waiting_line.specs.declared.Found.{Found}
-use Rattle.waiting_line.specs.declared.Found.TheVariants.{Nothing, Earliest}
 
--- ---- The requests that wait, the earliest arrival first
-
-abbrev pub requests_of : Line → List Request
-requests_of Zero = []
-requests_of (One a) = a ∷ []
-requests_of (Two a b) = a ∷ b ∷ []
-requests_of (Three a b c) = a ∷ b ∷ c ∷ []
-requests_of (Four a b c d) = a ∷ b ∷ c ∷ d ∷ []
+-- ---- Runs of records
 
 -- "a lent run of four request records": what waits in a run of records; a place that is free is passed over
 abbrev pub waits_at : Place → List Request → List Request
@@ -63,18 +54,15 @@ is_tx = allows (allow Any Never)
 
 -- whether a request that waits passes a test
 abbrev pub any_passes : (Request → Bool) → List Request → Bool
-any_passes p [] = false
-any_passes p (q ∷ qs) = p q || any_passes p qs
+any_passes p qs = list_any p qs
 
 -- "the earliest arrival" that passes a test
-abbrev pub earliest_of : (Request → Bool) → List Request → Found
-earliest_of p [] = Nothing
-earliest_of p (q ∷ qs) = cond (p q) (Earliest q) (earliest_of p qs)
+abbrev pub earliest_of : (Request → Bool) → List Request → Option Request
+earliest_of p qs = find p qs
 
 -- the line without it: the others keep their order, and no gap is left
 abbrev pub without_earliest : (Request → Bool) → List Request → List Request
-without_earliest p [] = []
-without_earliest p (q ∷ qs) = cond (p q) qs (q ∷ without_earliest p qs)
+without_earliest p qs = remove_key p qs
 
 -- ---- Of what was found
 
@@ -89,19 +77,19 @@ same_flag_of cca (Task.Tx length flag) = beq flag cca
 same_flag_of cca Task.Rx = false
 
 -- "OutboundSeen fits only with the start and flag of its earliest Tx"
-unfoldable pub names_tx : Timestamp → Bool → Found → Bool
-names_tx start cca Nothing = false
-names_tx start cca (Earliest q) = same_start_of q.start start && same_flag_of cca q.task
+unfoldable pub names_tx : Timestamp → Bool → Option Request → Bool
+names_tx start cca None = false
+names_tx start cca (Some q) = same_start_of q.start start && same_flag_of cca q.task
 
-unfoldable pub is_token : ℕ → Found → Bool
-is_token token Nothing = false
-is_token token (Earliest q) = eqb q.token token
+unfoldable pub is_token : ℕ → Option Request → Bool
+is_token token None = false
+is_token token (Some q) = eqb q.token token
 
 -- ---- Laws of these definitions; proofs/Laws.antt has their proofs.
 
--- a line that is written into four records and read again is the same
+-- a line, of at most four requests, that is written into four records and read again is the same
 abbrev pub RecordsKeepLine : Type 0
-RecordsKeepLine = (l : Line) → waiting (records 4 (requests_of l)) ≡ requests_of l
+RecordsKeepLine = (qs : List Request) → length qs ≤ 4 → waiting (records 4 qs) ≡ qs
 
 -- a Tx is a request whose task is one
 abbrev pub TxExactly : Type 0

@@ -1,32 +1,18 @@
--- `driver::start` meets its contract: the outcome and the pool are the definitions', and the theorem on lists holds of it.
+-- `driver::start` meets its contract: what it returns and writes is the definitions', and the theorem on lists holds of it.
 -- Assumes nothing.
-use Prim.Native.Nat.{ℕ}
-use mathlib.Core.Path.{◌≡◌}
-use mathlib.Core.List.{List}
-use lib.ListN.{length}
-use Rattle.radio_frame.specs.declared.Settings.{Settings}
-use Rattle.radio_frame.specs.Settings.{settings_refusal}
-use Rattle.tasks.specs.declared.Answers.{Answers}
-use Rattle.tasks.specs.declared.Asked.{Asked}
-use Rattle.tasks.specs.declared.Wait.{Wait}
-use Rattle.moves.specs.declared.Move.{Move}
-use Rattle.moves.specs.Move.{guarded_of, to_idle}
-use Rattle.engine.specs.declared.Outcome.{Outcome}
-use Rattle.engine.specs.Step.{outcome_of, start_of}
-use Rattle.driver.proofs.Promises.{start_promises}
+use Rattle.std.proofs.Common.{◌≡◌, ◌∙◌, ap}
+use Rattle.std.proofs.lemmas.Result.{err_from_is_err_and}
+use Rattle.driver.proofs.Promises.{started, start_refused}
 use Rattle.driver.proofs.start.Goals as goal
 
-by-start : (set : Settings) (pool : List ℕ) (o : Outcome) (g m : Move) (k : ℕ) → o ≡ outcome_of g
-    → g ≡ guarded_of (record { set = set; wait = Wait.Asking Asked.Idle }) k m → m ≡ to_idle set Answers.None → k ≡ settings_refusal set (length pool)
-    → o ≡ start_of set pool
-unfolding start_of
-by-start set pool o g m k e f h r = rw (f, h, r) at e
+pub returns-in_err-check_settings : goal.returns-in_err-check_settings
+returns-in_err-check_settings c =
+    let p = err_from_is_err_and c.from_residual.result c.from_residual.ensures.1 in
+    rw (p.1, p.2) (start_refused c.args.set c.args.pool.now _ c.in_err-check_settings.ensures)
 
 pub returns : goal.returns
 returns c =
-    let a = c.args in
-    let is =
-    by-start a.set a.pool.now _ _ _ _ c.outcome_of.ensures c.guarded.ensures c.to_idle.ensures
-    c.settings_refusal-refusal.ensures
-    in
-    start_promises a.set a.pool.now _ _ is c.write_ack.ensures
+    started c.args.set c.args.pool.now _ _
+    c.in_ok-check_settings.ensures
+    c.to_idle-m.ensures
+    (rw c.frame_start-at.ensures at c.imm_ack_frame.ensures)

@@ -3,4 +3,4 @@
 use Rattle.driver_c.proofs.widosha_rollback.Goals as goal
 
 pub returns : goal.returns
-returns c = c.call.ensures
+returns c = rw c.number.ensures c.call.ensures

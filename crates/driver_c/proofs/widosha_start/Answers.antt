@@ -3,4 +3,4 @@
 use Rattle.driver_c.proofs.widosha_start.Goals as goal
 
 pub returns : goal.returns
-returns c = c.start.ensures
+returns c = rw c.number.ensures c.start.ensures

@@ -1,14 +1,18 @@
--- `driver_service::step` meets its contract: 2 to 4 first, and the theorems on every call hold of what it gives.
+-- `driver_service::step` meets its contract: 2 to 4 come first, and the theorems on every call hold of what the call comes to.
 -- Assumes nothing.
-use Rattle.driver_service.proofs.Gives.{silent_gives, all_of}
-use mathlib.Core.Path.{refl}
-use Rattle.driver_service.proofs.Promises.{stepped, passing, refused_first}
+use Rattle.std.proofs.Common.{◌≡◌, refl}
+use Rattle.std.proofs.lemmas.Result.{err_from_is_err_and}
+use Rattle.refusals.proofs.Refusals.{not_zero}
+use Rattle.service.specs.Service.{service_of, unless_refused}
+use Rattle.driver_service.proofs.Promises.{stepped}
 use Rattle.driver_service.proofs.step.Goals as goal
 
-pub returns-then-refusal-eq0 : goal.returns-then-refusal-eq0
-returns-then-refusal-eq0 c =
-    let a = c.args in stepped a.s _ a.pool.now a.c _ _ (passing a.s _ a.pool.now a.c _ _ _ c.settings_refusal-refusal.ensures c.if-refusal-eq0.true c.call.ensures)
+pub returns : goal.returns
+unfolding service_of unless_refused
+returns c = stepped _ _ _ _ _ _ _ (rw (← c.in_ok-check_settings.ensures) c.call.ensures)
 
-pub returns-else-refusal-eq0 : goal.returns-else-refusal-eq0
-returns-else-refusal-eq0 c =
-    let a = c.args in stepped a.s _ a.pool.now a.c _ _ (refused_first a.s _ a.pool.now a.c _ _ _ c.settings_refusal-refusal.ensures c.if-refusal-eq0.false (all_of a.pool.now (silent_gives _ a.s a.l a.pool.now _ c.silent.ensures) refl))
+pub returns-in_err-check_settings : goal.returns-in_err-check_settings
+unfolding service_of unless_refused
+returns-in_err-check_settings c =
+    let p = err_from_is_err_and c.from_residual.result c.from_residual.ensures.1 in
+    rw (p.1, p.2) (stepped _ _ _ _ _ _ _ (rw (← c.in_err-check_settings.ensures, not_zero _) refl))

@@ -1,13 +1,19 @@
 -- `exported::call` meets its contract.
 -- Assumes nothing.
-use mathlib.Core.Path.{sym, ◌∙◌}
+use Rattle.std.proofs.Common.{◌≡◌}
+use Rattle.std.proofs.lemmas.Result.{err_from_is_err_and}
+use Rattle.slices.proofs.Slices.{read_ok, read_err}
 use Rattle.exported.proofs.Calls.{done, not_done}
 use Rattle.exported.proofs.call.Goals as goal
 
-pub returns-in-Valid : goal.returns-in-Valid
-returns-in-Valid c =
-    let a = c.args in done a.state.now a.reply.now a.pool.now a.x _ (sym c.read-d.ensures.case ∙ c.in-Valid.is) _ _ _ _ _ c.made-o.ensures.0 c.made-o.ensures.1 c.finish.ensures
+pub returns-in_err-s : goal.returns-in_err-s
+returns-in_err-s c =
+    let a = c.args in
+    let p = err_from_is_err_and c.from_residual.result c.from_residual.ensures.1 in
+    let e = read_err _ c.in_err-s.ensures.case in
+    rw (p.1, p.2, e.1) (not_done a.state.now a.reply.now a.pool.now a.x e.0)
 
-pub returns-in-Invalid : goal.returns-in-Invalid
-returns-in-Invalid c =
-    let a = c.args in not_done a.state.now a.reply.now a.pool.now a.x (sym c.read-d.ensures.case ∙ c.in-Invalid.is)
+pub returns : goal.returns
+returns c =
+    let a = c.args in
+    done a.state.now a.reply.now a.pool.now a.x _ (read_ok _ c.in_ok-s.ensures.case) _ _ _ _ _ c.made.ensures.0 c.made.ensures.1 (c.finish.ensures c.in_ok-s.s)

@@ -1,9 +1,10 @@
 -- `fcs::two_by_shifts` meets its contract.
 -- Assumes nothing.
-use borrow.Author.Rules.{rules}
-use Rattle.fcs.proofs.Shifts.{shifts, left, quotient, four, of_word}
+use Rattle.std.proofs.Common.{rules}
+use Rattle.fcs.proofs.Shifts.{shifts, left, quotient, four, word_step}
 use Rattle.fcs.proofs.two_by_shifts.Goals as goal
 
 pub returns : goal.returns
 unfolding shifts left quotient four
-returns c = of_word c.args.word (search rules)
+returns c =
+    word_step c.args.register c.args.pair (search rules) (search rules) (search rules) c.from_le_bytes.result c.from_le_bytes.ensures

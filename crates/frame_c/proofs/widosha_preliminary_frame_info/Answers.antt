@@ -3,4 +3,4 @@
 use Rattle.frame_c.proofs.widosha_preliminary_frame_info.Goals as goal
 
 pub returns : goal.returns
-returns c = c.preliminary_frame_info.ensures
+returns c = rw c.number.ensures c.preliminary_frame_info.ensures

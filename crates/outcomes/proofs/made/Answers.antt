@@ -3,8 +3,8 @@
 use Rattle.outcomes.proofs.Outcomes.{made_known, made_unknown}
 use Rattle.outcomes.proofs.made.Goals as goal
 
-pub returns-then-is_known : goal.returns-then-is_known
-returns-then-is_known c = made_known _ _ _ _ c.is_known.ensures c.if-is_known.true _ c.call_of.ensures _ _ c.step.ensures
+pub returns-in-Some : goal.returns-in-Some
+returns-in-Some c = made_known _ _ _ _ c.in-Some.ensures _ _ c.step.ensures
 
-pub returns-else-is_known : goal.returns-else-is_known
-returns-else-is_known c = made_unknown _ _ _ _ c.is_known.ensures c.if-is_known.false _ c.unknown.ensures
+pub returns-in-None : goal.returns-in-None
+returns-in-None c = made_unknown _ _ _ c.in-None.ensures _ c.unknown.ensures

@@ -1,7 +1,0 @@
--- `moves::accepted` meets its contract: field by field.
--- Assumes nothing.
-use mathlib.Core.Path.{refl}
-use Rattle.moves.proofs.accepted.Goals as goal
-
-pub returns : goal.returns
-returns c = refl

@@ -1,6 +1,0 @@
--- `moves::ask` meets its contract: the accepted move with its wait and action.
--- Assumes nothing.
-use Rattle.moves.proofs.ask.Goals as goal
-
-pub returns : goal.returns
-returns c = c.accepted.ensures

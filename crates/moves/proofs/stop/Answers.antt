@@ -1,6 +1,0 @@
--- `moves::stop` meets its contract: the accepted move with its wait and action.
--- Assumes nothing.
-use Rattle.moves.proofs.stop.Goals as goal
-
-pub returns : goal.returns
-returns c = c.accepted.ensures

@@ -1,0 +1,22 @@
+-- No refusal has the number 0.
+-- Assumes nothing.
+use Rattle.std.proofs.Common.{◌≡◌, false, refl}
+use Rattle.std.specs.Prelude.{eqb}
+use Rattle.refusals.specs.declared.Refusal.{Refusal}
+use Rattle.refusals.specs.Refusals.{refusal_number}
+
+pub not_zero : (refusal : Refusal) → eqb (refusal_number refusal) 0 ≡ false
+not_zero Refusal.Slices = refl
+not_zero Refusal.Pool = refl
+not_zero Refusal.Lengths = refl
+not_zero Refusal.OwnBuffers = refl
+not_zero Refusal.Unfit = refl
+not_zero Refusal.TokenHeld = refl
+not_zero Refusal.BufferHeld = refl
+not_zero Refusal.TxLength = refl
+not_zero Refusal.NotAllowed = refl
+not_zero Refusal.ReceivedLength = refl
+not_zero Refusal.LatestAckStart = refl
+not_zero Refusal.LineFull = refl
+not_zero Refusal.TokenWaits = refl
+not_zero Refusal.FrameLength = refl

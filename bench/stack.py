@@ -87,7 +87,7 @@ def take_call(function, name, word, operands, relocated):
     if word.startswith("call") and operands.startswith("*"):
         function.unbounded = "it calls through a pointer"
     elif word.startswith(("call", "j")) and not operands.startswith("*"):
-        target = relocated or re.search(r"<([^+>]+)", operands)
+        target = relocated or re.search(r"<(.+?)(?:\+0x[0-9a-f]+)?>\s*$", operands)
         if word.startswith("call") or target.group(1) != name:
             function.calls.add(target.group(1))
 

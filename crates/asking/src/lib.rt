@@ -10,8 +10,8 @@ use phy::Ifs;
 use radio_frame::Settings;
 use refusals::Refusal;
 use tasks::{
-    Action, Answer, Answers, Asked, Call, Left, Next, Request, Response, RxResult, RxTask, State,
-    Task, Transition, TxTask, Wait,
+    Action, Answer, Answers, Asked, Call, Left, Next, Request, Response, RxResult, RxTask, Slot,
+    State, Task, Transition, TxTask, Wait,
 };
 
 // What an ask leaves: the answer that the request or None brings at once, the task that the radio is on, and the spacing.
@@ -47,12 +47,12 @@ fn previous_task(set: Settings, a: Asked) -> PreviousTask
     match a {
         Asked::Idle => leaving(None, Left::Off, None),
         Asked::AfterWindow(q) => leaving(
-            Some(tasks::rx_answer(q, Response::Received(RxResult::RxWindowEnded))),
+            Some(Slot::from(q).answer(Response::Received(RxResult::RxWindowEnded))),
             Left::Off,
             None,
         ),
         Asked::AfterAckWindow(q, t) => leaving(
-            Some(tasks::tx_answer(q, Response::Nack(t))),
+            Some(Slot::from(q).answer(Response::Nack(t))),
             Left::Off,
             None,
         ),
@@ -139,7 +139,7 @@ fn none(s: State, a: Asked) -> Result<Accepted, Refusal>
         Asked::AfterWindow(_) => Err(Refusal::Unfit),
         Asked::AfterAckWindow(q, t) => Ok(moves::to_idle(
             s.set,
-            Answers::One(tasks::tx_answer(q, Response::Nack(t))),
+            Answers::One(Slot::from(q).answer(Response::Nack(t))),
         )),
         Asked::Receiving(q, _) => Ok(to_off(s.set, Left::Receiving(q), true)),
         Asked::Sending(q) => Ok(to_off(s.set, Left::Sending(q), false)),

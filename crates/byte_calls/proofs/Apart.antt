@@ -19,6 +19,7 @@ use Rattle.tasks.specs.declared.State.{State}
 use Rattle.tasks.specs.declared.Stop.{Stop}
 use Rattle.tasks.specs.declared.Transition.{Transition}
 use Rattle.tasks.specs.declared.Wait.{Wait}
+use Rattle.tasks.specs.declared.Slot.{Slot}
 use Rattle.tasks.specs.Pending.{left_slot, next_slot, asked_slot, stop_slot, transition_slots, pending_of}
 use Rattle.engine.specs.Book.{Book}
 use Rattle.engine.specs.Agreement.{left_standing, next_standing, wait_standing}
@@ -31,9 +32,9 @@ use Rattle.state_bytes.specs.Valid.{slot_fits, differs_from, slots_differ, valid
 use Rattle.byte_calls.proofs.Ranges.{PartIn, WaitIn, SettingsIn, StateIn}
 
 -- ---- The slots of a wait are what it owes
-abbrev slot_numbers : (ℕ → ℕ → ℕ) → Option (ℕ × ℕ) → List ℕ
+abbrev slot_numbers : (ℕ → ℕ → ℕ) → Option Slot → List ℕ
 slot_numbers pick None = []
-slot_numbers pick (Some (t, b)) = pick t b ∷ []
+slot_numbers pick (Some s) = pick s.token s.buffer ∷ []
 
 module _ (set : Settings) (pick : ℕ → ℕ → ℕ) where
   next_slots : (n : Next) → slot_numbers pick (next_slot n) ≡ numbers pick (next_standing n)
@@ -71,9 +72,9 @@ module _ (set : Settings) (pick : ℕ → ℕ → ℕ) where
   slots (Wait.Reading q) = refl
 
 -- ---- and their buffers are in range
-abbrev SlotIn : ℕ → Option (ℕ × ℕ) → Type 0
+abbrev SlotIn : ℕ → Option Slot → Type 0
 SlotIn n None = Unit {0}
-SlotIn n (Some (t, b)) = b < n
+SlotIn n (Some s) = s.buffer < n
 
 module _ (n : ℕ) where
   left_slot_in : (l : Left) → PartIn n (left_part l) → SlotIn n (left_slot l)
@@ -122,29 +123,29 @@ differs x y h = simp (ne_eqb x y other)
 
 module _ (set : Settings) where
   -- one request's buffer, the other own ones and possibly one more
-  slot_fits_lem : (t b : ℕ) (rest : ℕ) → b < set.count → count b (own set) + (one b b + rest) ≤ 1 → slot_fits set (Some (t, b)) ≡ true
+  slot_fits_lem : (s : Slot) (rest : ℕ) → s.buffer < set.count → count s.buffer (own set) + (one s.buffer s.buffer + rest) ≤ 1 → slot_fits set (Some s) ≡ true
   unfolding slot_fits
-  slot_fits_lem t b rest below h =
+  slot_fits_lem s rest below h =
       simp (
-        lt-ltb b set.count below,
-        differs b set.ack_buffer (omega (arith, one_self b)),
-        differs b set.spare_buffer (omega (arith, one_self b)),
+        lt-ltb s.buffer set.count below,
+        differs s.buffer set.ack_buffer (omega (arith, one_self s.buffer)),
+        differs s.buffer set.spare_buffer (omega (arith, one_self s.buffer)),
       )
 
-  pub valid_slots : (f g : Option (ℕ × ℕ)) → SlotIn set.count f → SlotIn set.count g
+  pub valid_slots : (f g : Option Slot) → SlotIn set.count f → SlotIn set.count g
       → ((x : ℕ) → count x (own set) + count x (slot_numbers buffer f ++ slot_numbers buffer g) ≤ 1)
       → ((x : ℕ) → count x (slot_numbers token f ++ slot_numbers token g) ≤ 1)
       → ((slot_fits set f && slot_fits set g) && slots_differ g f) ≡ true
   unfolding slots_differ differs_from slot_fits
   valid_slots None None F G B T = refl
-  valid_slots (Some (t, b)) None F G B T = simp (slot_fits_lem t b 0 F (B b))
-  valid_slots None (Some (u, c)) F G B T = simp (slot_fits_lem u c 0 G (B c))
-  valid_slots (Some (t, b)) (Some (u, c)) F G B T =
+  valid_slots (Some s) None F G B T = simp (slot_fits_lem s 0 F (B s.buffer))
+  valid_slots None (Some s) F G B T = simp (slot_fits_lem s 0 G (B s.buffer))
+  valid_slots (Some s) (Some r) F G B T =
       simp (
-        slot_fits_lem t b (one b c + 0) F (B b),
-        slot_fits_lem u c (one c b) G (omega (arith, B c)),
-        differs t u (omega (arith, T t, one_self t)),
-        differs b c (omega (arith, B b, one_self b)),
+        slot_fits_lem s (one s.buffer r.buffer + 0) F (B s.buffer),
+        slot_fits_lem r (one r.buffer s.buffer) G (omega (arith, B r.buffer)),
+        differs s.token r.token (omega (arith, T s.token, one_self s.token)),
+        differs s.buffer r.buffer (omega (arith, B s.buffer, one_self s.buffer)),
       )
 
 -- ---- So a state that the book is kept of, with its numbers in range, is valid

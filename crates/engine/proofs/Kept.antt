@@ -23,6 +23,7 @@ use Rattle.tasks.specs.declared.Stop.{Stop}
 use Rattle.tasks.specs.declared.Task.{Task}
 use Rattle.tasks.specs.declared.Transition.{Transition}
 use Rattle.tasks.specs.declared.Wait.{Wait}
+use Rattle.tasks.specs.declared.Slot.{Slot}
 use Rattle.tasks.specs.Pending.{left_slot, next_slot, asked_slot, stop_slot, transition_slots, pending_of}
 use Rattle.requests.specs.Requests.{slot_has_token, slot_has_buffer, token_held, buffer_held}
 use Rattle.moves.specs.Move.{Move}
@@ -169,9 +170,9 @@ module _ (s : State) (b e : Book) (pool : List ℕ) (c : Call) (action : Action)
       }
 
 -- ---- What refusals 6 and 7 look at is what is owed
-slot_has : (ℕ → ℕ → ℕ) → Option (ℕ × ℕ) → ℕ → Bool
+slot_has : (ℕ → ℕ → ℕ) → Option Slot → ℕ → Bool
 slot_has pick None x = false
-slot_has pick (Some (t, b)) x = eqb (pick t b) x
+slot_has pick (Some s) x = eqb (pick s.token s.buffer) x
 
 module _ (set : Settings) (pick : ℕ → ℕ → ℕ) (x : ℕ) where
   next_has : (n : Next) → slot_has pick (next_slot n) x ≡ has_number x (numbers pick (next_standing n))
@@ -225,15 +226,15 @@ module _ (set : Settings) (pick : ℕ → ℕ → ℕ) (x : ℕ) where
   pending_has (Wait.Stopping p) = stop_has p
   pending_has (Wait.Reading q) = refl
 
-slot_token : (h : Option (ℕ × ℕ)) (x : ℕ) → slot_has_token h x ≡ slot_has token h x
+slot_token : (h : Option Slot) (x : ℕ) → slot_has_token h x ≡ slot_has token h x
 unfolding slot_has_token slot_has
 slot_token None x = refl
-slot_token (Some (t, b)) x = refl
+slot_token (Some s) x = refl
 
-slot_buffer : (h : Option (ℕ × ℕ)) (x : ℕ) → slot_has_buffer h x ≡ slot_has buffer h x
+slot_buffer : (h : Option Slot) (x : ℕ) → slot_has_buffer h x ≡ slot_has buffer h x
 unfolding slot_has_buffer slot_has
 slot_buffer None x = refl
-slot_buffer (Some (t, b)) x = refl
+slot_buffer (Some s) x = refl
 
 pub token_has : (set : Settings) (w : Wait) (t : ℕ) → token_held w t ≡ has_number t (numbers token (wait_standing set w))
 unfolding token_held

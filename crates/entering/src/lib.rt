@@ -8,7 +8,7 @@ ghost use Rattle.entering.specs.Entering.{then_error, request_fell_back, fell_ba
 use moves::Accepted;
 use refusals::Refusal;
 use tasks::{
-    Answer, Answers, Call, Cause, Left, Next, Response, RxTask, State, TaskResult, Transition,
+    Answer, Answers, Call, Cause, Left, Next, Response, RxTask, Slot, State, TaskResult, Transition,
     TxTask,
 };
 
@@ -17,7 +17,7 @@ use tasks::{
 fn then_error(owed: Option<Answer>, q: TxTask, cause: Cause) -> Answers
     ensures { result ≡ then_error q cause owed }
 {
-    let error = tasks::tx_answer(q, Response::Error(cause));
+    let error = Slot::from(q).answer(Response::Error(cause));
     match owed {
         None => Answers::One(error),
         Some(a) => Answers::Two(a, error),

@@ -28,12 +28,12 @@ pub struct FrameControl {
     pub src_addressing_mode: AddressingMode,
 }
 
-impl AddressingMode {
-    // The addressing mode that a number stands for.
+// The addressing mode that the number of two bits stands for.
+impl From<u16> for AddressingMode {
+    ghost from_gives = { λ number r. r ≡ mode_of number };
+
     #[tactic(auto, unfolding(crate::specs::FrameControl::mode_of))]
-    fn from_number(number: u16) -> AddressingMode
-        ensures { result ≡ mode_of number }
-    {
+    fn from(number: u16) -> AddressingMode {
         match number {
             0 => AddressingMode::Absent,
             2 => AddressingMode::Short,
@@ -43,7 +43,7 @@ impl AddressingMode {
     }
 }
 
-// Whether a bit is set.
+// Whether a bit is set. (std's integers have no method for one bit.)
 fn bit(control: u16, place: u32) -> bool
     requires { place < 16 }
     ensures { result ≡ bit place control }
@@ -66,9 +66,9 @@ impl From<u16> for FrameControl {
             pan_id_compression: bit(control, 6),
             sequence_number_suppression: version == 2 && bit(control, 8),
             information_elements_present: bit(control, 9),
-            dst_addressing_mode: AddressingMode::from_number(control / 1024 % 4),
+            dst_addressing_mode: (control / 1024 % 4).into(),
             frame_version: version as u8,
-            src_addressing_mode: AddressingMode::from_number(control / 16384 % 4),
+            src_addressing_mode: (control / 16384 % 4).into(),
         }
     }
 }

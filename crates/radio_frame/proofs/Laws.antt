@@ -4,8 +4,9 @@ use Rattle.std.proofs.Common.{Some, None, ℕ}
 use Prim.Native.Nat.{ℕ, ◌*◌, ◌≤◌}
 use mathlib.Core.Path.{◌≡◌, refl, ap}
 use mathlib.Core.Logic.{◌⊎◌, inl, inr, ⊎_elim}
-use mathlib.Core.Bool.{Bool, true, false, true≢false, cond, not, ◌&&◌, ◌||◌}
+use mathlib.Core.Bool.{Bool, true, false, cond, not, ◌&&◌, ◌||◌}
 use native.Mathlib.Omega.{arith}
+use Rattle.std.proofs.lemmas.Bool.{or_parts, or_cases}
 use borrow.Author.Tests.{ltb-false, leb-false, eqb-true, eqb-false, not-false, le-ltb, lt-leb, eq-eqb, ne_eqb}
 use lib.Dec.{ltb, leb, eqb}
 use lib.ListN.{length, get_or}
@@ -31,14 +32,6 @@ none false true c h = absurd (omega arith)
 none false false true h = absurd (omega arith)
 none false false false h = (refl, refl, refl)
 
-neither : (a b : Bool) → (a || b) ≡ false → (a ≡ false) × (b ≡ false)
-neither true b h = (h, absurd (true≢false h))
-neither false b h = (refl, h)
-
-either_true : (a b : Bool) → (a || b) ≡ true → (a ≡ true) ⊎ (b ≡ true)
-either_true true b h = inl refl
-either_true false b h = inr h
-
 pub one_of_four : OneOfFour
 unfolding settings_refusal
 one_of_four s pool = answer (pool_unfit s pool) (rooms_unfit s) (own_buffers_unfit s)
@@ -56,14 +49,14 @@ zero_if_none s pool = (
 fit : (s : Settings) (pool : ℕ) → Unrefused s pool → Fit s pool
 unfolding pool_unfit rooms_unfit own_buffers_unfit
 fit s pool u =
-    let outside = neither (ltb s.count 3 || ltb 32 s.count) (not (eqb pool (buffer_length * s.count))) u.two in
-    let count = neither (ltb s.count 3) (ltb 32 s.count) outside.0 in
+    let outside = or_parts (ltb s.count 3 || ltb 32 s.count) (not (eqb pool (buffer_length * s.count))) u.two in
+    let count = or_parts (ltb s.count 3) (ltb 32 s.count) outside.0 in
     let two-or-four = eqb s.fcs_length 2 || eqb s.fcs_length 4 in
-    let lengths = neither (ltb 8 s.headroom || ltb 8 s.tailroom) (not two-or-four) u.three in
-    let rooms = neither (ltb 8 s.headroom) (ltb 8 s.tailroom) lengths.0 in
+    let lengths = or_parts (ltb 8 s.headroom || ltb 8 s.tailroom) (not two-or-four) u.three in
+    let rooms = or_parts (ltb 8 s.headroom) (ltb 8 s.tailroom) lengths.0 in
     let above = leb s.count s.ack_buffer || leb s.count s.spare_buffer in
-    let own = neither (eqb s.ack_buffer s.spare_buffer) above u.four in
-    let below = neither (leb s.count s.ack_buffer) (leb s.count s.spare_buffer) own.1 in
+    let own = or_parts (eqb s.ack_buffer s.spare_buffer) above u.four in
+    let below = or_parts (leb s.count s.ack_buffer) (leb s.count s.spare_buffer) own.1 in
     record {
       low = ltb-false _ _ count.0;
       high = ltb-false _ _ count.1;
@@ -72,7 +65,7 @@ fit s pool u =
       tailroom = ltb-false _ _ rooms.1;
       fcs =
           ⊎_elim (λ e. inl (eqb-true _ _ e)) (λ e. inr (eqb-true _ _ e))
-          (either_true (eqb s.fcs_length 2) (eqb s.fcs_length 4) (not-false _ lengths.1));
+          (or_cases (eqb s.fcs_length 2) (eqb s.fcs_length 4) (not-false _ lengths.1));
       ack = leb-false _ _ below.0;
       spare = leb-false _ _ below.1;
       different = eqb-false _ _ own.0;

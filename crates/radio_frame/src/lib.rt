@@ -83,29 +83,31 @@ pub fn check_settings(set: Settings, len: usize) -> Result<(), Refusal>
 }
 
 // Where a buffer's frame begins.
+#[tactic(auto, unfolding(crate::specs::RadioFrame::frame_start))]
 pub fn frame_start(set: Settings, buffer: u8) -> u32
     ensures { result ≡ frame_start set buffer }
 {
-    BUFFER_LENGTH * (buffer as u32) + (set.headroom as u32)
+    BUFFER_LENGTH * u32::from(buffer) + u32::from(set.headroom)
 }
 
 // The length with checksum; it stays at the largest 16-bit number where the sum is above that.
+#[tactic(auto, unfolding(crate::specs::RadioFrame::sdu_length))]
 pub fn sdu_length(set: Settings, length: u16) -> u16
     ensures { result ≡ sdu_length set length }
 {
-    let sum = (length as u32) + (set.fcs_length as u32);
-    if sum < 65536 { sum as u16 } else { 65535 }
+    length.saturating_add(set.fcs_length.into())
 }
 
 // The parts of the frame of a length without checksum in a buffer.
+#[tactic(auto, unfolding(crate::specs::RadioFrame::radio_frame_of))]
 pub fn radio_frame(set: Settings, buffer: u8, length: u16) -> RadioFrame
     ensures { result ≡ radio_frame_of set buffer length }
 {
-    let buffer_start = BUFFER_LENGTH * (buffer as u32);
-    let sdu = buffer_start + (set.headroom as u32);
-    let fcs = sdu + (length as u32);
-    let tailroom = fcs + (set.fcs_length as u32);
-    let end = tailroom + (set.tailroom as u32);
+    let buffer_start = BUFFER_LENGTH * u32::from(buffer);
+    let sdu = buffer_start + u32::from(set.headroom);
+    let fcs = sdu + u32::from(length);
+    let tailroom = fcs + u32::from(set.fcs_length);
+    let end = tailroom + u32::from(set.tailroom);
     RadioFrame {
         headroom: Range {
             start: buffer_start,
@@ -131,13 +133,9 @@ pub fn radio_frame(set: Settings, buffer: u8, length: u16) -> RadioFrame
 pub fn ack_seq_num(frame: &[u8]) -> Option<u8>
     ensures { result ≡ ack_seq_num_of frame.now }
 {
-    let low = util::byte_at(frame, 0);
-    let high = util::byte_at(frame, 1);
-    let fc = frame_control::frame_control(low, high);
-    let whole = 3 <= frame.len();
-    if whole && fc.ack_request && !fc.sequence_number_suppression {
-        Some(util::byte_at(frame, 2))
-    } else {
-        None
-    }
+    let [low, high, number, ..] = frame else {
+        return None;
+    };
+    let fc = frame_control::frame_control(*low, *high);
+    (fc.ack_request && !fc.sequence_number_suppression).then_some(*number)
 }

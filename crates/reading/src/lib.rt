@@ -31,10 +31,7 @@ fn is_broadcast_destination(address: Address) -> bool
 fn is_broadcast(fact: Option<AddressingFields>) -> bool
     ensures { result ≡ broadcast fact }
 {
-    match fact {
-        Some(fields) => is_broadcast_destination(fields.dst_address),
-        None => false,
-    }
+    fact.is_some_and(|fields| is_broadcast_destination(fields.dst_address))
 }
 
 // The number that is wanted back: the frame's own, if it has one and requests an acknowledgement.
@@ -44,7 +41,7 @@ fn requested_ack(control: Option<FrameControl>, number: Option<u8>) -> Option<u8
 {
     let fc = control?;
     let k = number?;
-    if fc.ack_request { Some(k) } else { None }
+    fc.ack_request.then_some(k)
 }
 
 // The number to acknowledge: the one that is wanted, but none of a broadcast.
@@ -52,7 +49,7 @@ fn requested_ack(control: Option<FrameControl>, number: Option<u8>) -> Option<u8
 fn number_to_acknowledge(fact: Option<AddressingFields>, wanted: Option<u8>) -> Option<u8>
     ensures { result ≡ number_to_acknowledge fact wanted }
 {
-    if is_broadcast(fact) { None } else { wanted }
+    wanted.filter(|_| !is_broadcast(fact))
 }
 
 fn rearm(set: Settings, q: RxTask) -> Accepted

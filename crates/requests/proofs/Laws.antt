@@ -7,6 +7,7 @@ use mathlib.Core.Logic.{◌⊎◌, inl, inr, ◌↔◌}
 use mathlib.Core.Bool.{Bool, true, false, true≢false, ◌||◌}
 use lib.Dec.{eqb}
 use borrow.Author.Tests.{eqb-true, eq-eqb}
+use Rattle.tasks.specs.declared.Slot.{Slot}
 use Rattle.tasks.specs.Pending.{pending_of}
 use Rattle.requests.specs.Requests.{slot_has_token, slot_has_buffer, token_held, buffer_held}
 use Rattle.requests.specs.Requests.{HasToken, HasBuffer, TokenHeldExactly, BufferHeldExactly}
@@ -31,21 +32,24 @@ or {A = A} {B = B} a b p q = (to a p.0, back a p.1)
 equal : (x y : ℕ) → Exactly (eqb x y) (x ≡ y)
 equal x y = (eqb-true x y, eq-eqb x y)
 
-has_token_lem : (h : Option (ℕ × ℕ)) (token : ℕ) → Exactly (slot_has_token h token) (HasToken h token)
+abbrev slot : ℕ → ℕ → Slot
+slot t b = record { token = t; buffer = b }
+
+has_token_lem : (h : Option Slot) (token : ℕ) → Exactly (slot_has_token h token) (HasToken h token)
 unfolding slot_has_token
 has_token_lem h token = (to h, λ x. rw x.held (eq-eqb token token refl))
   where
-    to : (h : Option (ℕ × ℕ)) → slot_has_token h token ≡ true → HasToken h token
+    to : (h : Option Slot) → slot_has_token h token ≡ true → HasToken h token
     to None e = absurd (true≢false (sym e))
-    to (Some (t, b)) e = record { buffer = b; held = ap (λ (k : ℕ). Some (k, b)) (eqb-true t token e) }
+    to (Some s) e = record { buffer = s.buffer; held = ap (λ (k : ℕ). Some (slot k s.buffer)) (eqb-true s.token token e) }
 
-has_buffer_lem : (h : Option (ℕ × ℕ)) (buffer : ℕ) → Exactly (slot_has_buffer h buffer) (HasBuffer h buffer)
+has_buffer_lem : (h : Option Slot) (buffer : ℕ) → Exactly (slot_has_buffer h buffer) (HasBuffer h buffer)
 unfolding slot_has_buffer
 has_buffer_lem h buffer = (to h, λ x. rw x.held (eq-eqb buffer buffer refl))
   where
-    to : (h : Option (ℕ × ℕ)) → slot_has_buffer h buffer ≡ true → HasBuffer h buffer
+    to : (h : Option Slot) → slot_has_buffer h buffer ≡ true → HasBuffer h buffer
     to None e = absurd (true≢false (sym e))
-    to (Some (t, b)) e = record { token = t; held = ap (λ (k : ℕ). Some (t, k)) (eqb-true b buffer e) }
+    to (Some s) e = record { token = s.token; held = ap (λ (k : ℕ). Some (slot s.token k)) (eqb-true s.buffer buffer e) }
 
 pub token_held_exactly : TokenHeldExactly
 unfolding token_held

@@ -7,6 +7,7 @@ use Rattle.tasks.specs.declared.Timestamp.{Timestamp}
 use Rattle.tasks.specs.declared.Task.{Task}
 use Rattle.tasks.specs.declared.Request.{Request}
 use Rattle.tasks.specs.declared.Asked.{Asked}
+use Rattle.tasks.specs.declared.Slot.{Slot}
 use Rattle.tasks.specs.declared.Wait.{Wait}
 use Rattle.tasks.specs.declared.State.{State}
 use Rattle.tasks.specs.declared.Starts.{Starts}
@@ -16,13 +17,13 @@ use Rattle.tasks.specs.Pending.{pending_of}
 
 -- ---- 6 and 7
 
-unfoldable pub slot_has_token : Option (ℕ × ℕ) → ℕ → Bool
+unfoldable pub slot_has_token : Option Slot → ℕ → Bool
 slot_has_token None token = false
-slot_has_token (Some (t, b)) token = eqb t token
+slot_has_token (Some s) token = eqb s.token token
 
-unfoldable pub slot_has_buffer : Option (ℕ × ℕ) → ℕ → Bool
+unfoldable pub slot_has_buffer : Option Slot → ℕ → Bool
 slot_has_buffer None buffer = false
-slot_has_buffer (Some (t, b)) buffer = eqb b buffer
+slot_has_buffer (Some s) buffer = eqb s.buffer buffer
 
 -- "6. The token is held by an unanswered request."
 unfoldable pub token_held : Wait → ℕ → Bool
@@ -96,13 +97,13 @@ arrival_refusal s q buffer full token =
 -- Laws of 6 and 7, in the paper's words; proofs/Laws.antt has their proofs.
 
 -- an unanswered request with a token, and one with a buffer
-pub record HasToken (h : Option (ℕ × ℕ)) (token : ℕ) : Type 0 where
+pub record HasToken (h : Option Slot) (token : ℕ) : Type 0 where
   pub buffer : ℕ
-  pub held : h ≡ Some (token, buffer)
+  pub held : h ≡ Some (record { token = token; buffer = buffer })
 
-pub record HasBuffer (h : Option (ℕ × ℕ)) (buffer : ℕ) : Type 0 where
+pub record HasBuffer (h : Option Slot) (buffer : ℕ) : Type 0 where
   pub token : ℕ
-  pub held : h ≡ Some (token, buffer)
+  pub held : h ≡ Some (record { token = token; buffer = buffer })
 
 -- a token is held exactly if one of the unanswered requests has it
 abbrev pub TokenHeldExactly : Type 0

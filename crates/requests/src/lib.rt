@@ -3,47 +3,28 @@
 
 ghost use Rattle.std.specs.Prelude.{◌≡◌, ◌||◌, cond, leb};
 ghost use Rattle.refusals.specs.Refusals.{number_of};
-ghost use Rattle.requests.specs.Requests.{slot_has_token, slot_has_buffer, token_held, buffer_held, tx_length_unfit, allow, allowed_of, start_allowed, not_allowed, request_refusal, arrival_refusal};
+ghost use Rattle.requests.specs.Requests.{token_held, buffer_held, tx_length_unfit, allow, allowed_of, start_allowed, not_allowed, request_refusal, arrival_refusal};
 
 use radio_frame::Settings;
 use refusals::Refusal;
 use tasks::{Allowed, Asked, Request, Starts, State, Task, Timestamp, Wait};
 
-#[tactic(auto, unfolding(crate::specs::Requests::slot_has_token))]
-fn slot_has_token(h: Option<(u32, u8)>, token: u32) -> bool
-    ensures { result ≡ slot_has_token h token }
-{
-    match h {
-        None => false,
-        Some((t, _)) => t == token,
-    }
-}
-
-#[tactic(auto, unfolding(crate::specs::Requests::slot_has_buffer))]
-fn slot_has_buffer(h: Option<(u32, u8)>, buffer: u8) -> bool
-    ensures { result ≡ slot_has_buffer h buffer }
-{
-    match h {
-        None => false,
-        Some((_, b)) => b == buffer,
-    }
-}
-
-#[tactic(auto, unfolding(crate::specs::Requests::token_held))]
+#[tactic(auto, unfolding(crate::specs::Requests::token_held, crate::specs::Requests::slot_has_token))]
 fn is_token_held(w: Wait, token: u32) -> bool
     ensures { result ≡ token_held w token }
 {
     let p = tasks::pending_requests(w);
-    slot_has_token(p.first, token) || slot_has_token(p.second, token)
+    p.first.is_some_and(|h| h.token == token) || p.second.is_some_and(|h| h.token == token)
 }
 
-#[tactic(auto, unfolding(crate::specs::Requests::buffer_held))]
+#[tactic(auto, unfolding(crate::specs::Requests::buffer_held, crate::specs::Requests::slot_has_buffer))]
 fn is_buffer_held(s: State, buffer: u8) -> bool
     ensures { result ≡ buffer_held s buffer }
 {
     let p = tasks::pending_requests(s.wait);
     let is_own = s.set.ack_buffer == buffer || s.set.spare_buffer == buffer;
-    is_own || (slot_has_buffer(p.first, buffer) || slot_has_buffer(p.second, buffer))
+    let is_first = p.first.is_some_and(|h| h.buffer == buffer);
+    is_own || (is_first || p.second.is_some_and(|h| h.buffer == buffer))
 }
 
 fn allow(tx: Starts, rx: Starts) -> Allowed

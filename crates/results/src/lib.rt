@@ -7,7 +7,7 @@ ghost use Rattle.results.specs.Results.{received_unfit, received_refusal, leave_
 
 use radio_frame::Settings;
 use refusals::Refusal;
-use tasks::{Answer, AwaitedAck, Left, Response, RxResult, RxTask, TaskResult, TxTask};
+use tasks::{Answer, AwaitedAck, Left, Response, RxResult, RxTask, Slot, TaskResult, TxTask};
 
 // Whether a received length is refused.
 #[tactic(auto, unfolding(crate::specs::Results::received_unfit))]
@@ -51,7 +51,7 @@ pub fn leave_receiving(set: Settings, q: RxTask, r: TaskResult) -> Result<Option
     match r {
         TaskResult::Rx(x) => {
             check_received(set, x)?;
-            Ok(Some(tasks::rx_answer(q, Response::Received(x))))
+            Ok(Some(Slot::from(q).answer(Response::Received(x))))
         }
         _ => Err(Refusal::Unfit),
     }
@@ -62,7 +62,7 @@ fn leave_sending(q: TxTask, r: TaskResult) -> Result<Option<Answer>, Refusal>
     ensures { Leaves (leave_sending q r) result }
 {
     match r {
-        TaskResult::Sent(t) => Ok(Some(tasks::tx_answer(q, Response::Sent(t)))),
+        TaskResult::Sent(t) => Ok(Some(Slot::from(q).answer(Response::Sent(t)))),
         _ => Err(Refusal::Unfit),
     }
 }
@@ -78,6 +78,7 @@ fn leave_sending_ack(r: TaskResult) -> Result<Option<Answer>, Refusal>
 }
 
 // Sent where the frame of a length in the spare buffer is the awaited acknowledgement, else Nack.
+#[tactic(auto, unfolding(crate::specs::Results::ack_response))]
 fn ack_response(set: Settings, pool: &[u8], a: AwaitedAck, length: u16) -> Response
     ensures { result ≡ ack_response set pool.now a length }
 {
@@ -103,10 +104,10 @@ fn ack_received(
         RxResult::Frame(n, _, _) => {
             check_received(set, r)?;
             let response = ack_response(set, pool, a, n);
-            Ok(Some(tasks::tx_answer(a.task, response)))
+            Ok(Some(Slot::from(a.task).answer(response)))
         }
         RxResult::RxWindowEnded => Err(Refusal::Unfit),
-        RxResult::CrcError(_, _) => Ok(Some(tasks::tx_answer(a.task, Response::Nack(a.time)))),
+        RxResult::CrcError(_, _) => Ok(Some(Slot::from(a.task).answer(Response::Nack(a.time)))),
     }
 }
 

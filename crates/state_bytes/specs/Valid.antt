@@ -4,6 +4,7 @@ use Rattle.std.specs.Prelude.{ℕ, ◌*◌, ◌^◌, ◌<◌, ◌≡◌, ◌↔�
 use Rattle.util.specs.Bytes.{AllBytes}
 use Rattle.radio_frame.specs.declared.Settings.{Settings}
 use Rattle.radio_frame.specs.Settings.{buffer_length, settings_refusal}
+use Rattle.tasks.specs.declared.Slot.{Slot}
 use Rattle.tasks.specs.declared.State.{State}
 use Rattle.tasks.specs.Pending.{pending_of}
 use Rattle.wait_parts.specs.Parts.{wait_parts_of, PartFit}
@@ -12,18 +13,18 @@ use Rattle.state_bytes.specs.Layout.{written_state, state_at}
 -- ---- "some state with settings that pass 2 to 4, in-range buffers all different and open tokens different"
 
 -- an unanswered request's buffer is in range and none of the own ones (which 4 has in range and different)
-unfoldable pub slot_fits : Settings → Option (ℕ × ℕ) → Bool
+unfoldable pub slot_fits : Settings → Option Slot → Bool
 slot_fits set None = true
-slot_fits set (Some (t, b)) = ltb b set.count && (not (eqb b set.ack_buffer) && not (eqb b set.spare_buffer))
+slot_fits set (Some s) = ltb s.buffer set.count && (not (eqb s.buffer set.ack_buffer) && not (eqb s.buffer set.spare_buffer))
 
 -- two unanswered requests have different tokens and different buffers
-unfoldable pub differs_from : ℕ → ℕ → Option (ℕ × ℕ) → Bool
+unfoldable pub differs_from : ℕ → ℕ → Option Slot → Bool
 differs_from token buffer None = true
-differs_from token buffer (Some (t, b)) = not (eqb token t) && not (eqb buffer b)
+differs_from token buffer (Some s) = not (eqb token s.token) && not (eqb buffer s.buffer)
 
-unfoldable pub slots_differ : Option (ℕ × ℕ) → Option (ℕ × ℕ) → Bool
+unfoldable pub slots_differ : Option Slot → Option Slot → Bool
 slots_differ second None = true
-slots_differ second (Some (t, b)) = differs_from t b second
+slots_differ second (Some s) = differs_from s.token s.buffer second
 
 -- settings pass 2 to 4 with a pool of their own size: the length of the pool at hand is no part of a state
 unfoldable pub valid_state : State → Bool

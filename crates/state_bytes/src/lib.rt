@@ -6,7 +6,7 @@ ghost use Rattle.state_bytes.specs.Layout.{settings_at, task_at, parts_at, state
 ghost use Rattle.state_bytes.specs.Valid.{slot_fits, differs_from, slots_differ, valid_state, same_list, Decodes};
 
 use radio_frame::Settings;
-use tasks::{Pending, State, TxTask};
+use tasks::{Pending, Slot, State, TxTask};
 use wait_parts::{Part, Parts};
 
 // ---- Bytes
@@ -125,17 +125,19 @@ fn state_at(bytes: &[u8]) -> State
 
 // A request's buffer is in range and none of the own ones.
 #[tactic(auto, unfolding(crate::specs::Valid::slot_fits))]
-fn slot_fits(set: Settings, slot: Option<(u32, u8)>) -> bool
+fn slot_fits(set: Settings, slot: Option<Slot>) -> bool
     ensures { result ≡ slot_fits set slot }
 {
-    slot.is_none_or(|(_, b)| b < set.count && b != set.ack_buffer && b != set.spare_buffer)
+    slot.is_none_or(|h| {
+        h.buffer < set.count && h.buffer != set.ack_buffer && h.buffer != set.spare_buffer
+    })
 }
 
 #[tactic(auto, unfolding(crate::specs::Valid::differs_from))]
-fn differs_from(token: u32, buffer: u8, slot: Option<(u32, u8)>) -> bool
+fn differs_from(token: u32, buffer: u8, slot: Option<Slot>) -> bool
     ensures { result ≡ differs_from token buffer slot }
 {
-    slot.is_none_or(|(t, b)| token != t && buffer != b)
+    slot.is_none_or(|h| token != h.token && buffer != h.buffer)
 }
 
 // Two requests have different tokens and buffers.
@@ -143,19 +145,18 @@ fn differs_from(token: u32, buffer: u8, slot: Option<(u32, u8)>) -> bool
 fn slots_differ(p: Pending) -> bool
     ensures { result ≡ slots_differ p.second p.first }
 {
-    p.first.is_none_or(|(t, b)| differs_from(t, b, p.second))
+    p.first.is_none_or(|h| differs_from(h.token, h.buffer, p.second))
 }
 
 #[tactic(auto, unfolding(crate::specs::Valid::valid_state))]
 fn is_valid_state(s: State) -> bool
     ensures { result ≡ valid_state s }
 {
-    let set = s.set;
     let p = tasks::pending_requests(s.wait);
-    let own_size = radio_frame::BUFFER_LENGTH * u32::from(set.count);
-    radio_frame::check_settings(set, own_size as usize).is_ok()
-        && slot_fits(set, p.first)
-        && slot_fits(set, p.second)
+    let own_size = radio_frame::BUFFER_LENGTH * u32::from(s.set.count);
+    radio_frame::check_settings(s.set, own_size as usize).is_ok()
+        && slot_fits(s.set, p.first)
+        && slot_fits(s.set, p.second)
         && slots_differ(p)
 }
 

@@ -1,6 +1,6 @@
 -- The unanswered requests of a wait, the token and the buffer of each: document 01, "Waits".
 -- Assumes nothing.
-use Rattle.std.specs.Prelude.{Option, ℕ, Some, None}
+use Rattle.std.specs.Prelude.{Option, Some, None}
 use Rattle.tasks.specs.declared.TxTask.{TxTask}
 use Rattle.tasks.specs.declared.RxTask.{RxTask}
 use Rattle.tasks.specs.declared.Left.{Left}
@@ -9,27 +9,34 @@ use Rattle.tasks.specs.declared.Asked.{Asked}
 use Rattle.tasks.specs.declared.Transition.{Transition}
 use Rattle.tasks.specs.declared.Stop.{Stop}
 use Rattle.tasks.specs.declared.Wait.{Wait}
+use Rattle.tasks.specs.declared.Slot.{Slot}
 use Rattle.tasks.specs.declared.Pending.{Pending}
 
-abbrev pub tx_slot : TxTask → Option (ℕ × ℕ)
-tx_slot q = Some (q.token, q.buffer)
+abbrev pub tx_holds : TxTask → Slot
+tx_holds q = record { token = q.token; buffer = q.buffer }
 
-abbrev pub rx_slot : RxTask → Option (ℕ × ℕ)
-rx_slot q = Some (q.token, q.buffer)
+abbrev pub rx_holds : RxTask → Slot
+rx_holds q = record { token = q.token; buffer = q.buffer }
 
-unfoldable pub left_slot : Left → Option (ℕ × ℕ)
+abbrev pub tx_slot : TxTask → Option Slot
+tx_slot q = Some (tx_holds q)
+
+abbrev pub rx_slot : RxTask → Option Slot
+rx_slot q = Some (rx_holds q)
+
+unfoldable pub left_slot : Left → Option Slot
 left_slot Left.Off = None
 left_slot (Left.Receiving q) = rx_slot q
 left_slot (Left.Sending q) = tx_slot q
 left_slot Left.SendingAck = None
 left_slot (Left.ReceivingAck a) = tx_slot a.task
 
-unfoldable pub next_slot : Next → Option (ℕ × ℕ)
+unfoldable pub next_slot : Next → Option Slot
 next_slot (Next.Tx q k) = tx_slot q
 next_slot (Next.Rx q) = rx_slot q
 next_slot Next.Off = None
 
-unfoldable pub asked_slot : Asked → Option (ℕ × ℕ)
+unfoldable pub asked_slot : Asked → Option Slot
 asked_slot Asked.Idle = None
 asked_slot (Asked.AfterWindow q) = rx_slot q
 asked_slot (Asked.AfterAckWindow q t) = tx_slot q
@@ -38,13 +45,13 @@ asked_slot (Asked.Sending q) = tx_slot q
 asked_slot (Asked.SendingAck i) = None
 asked_slot (Asked.ReceivingAck a) = tx_slot a.task
 
-unfoldable pub stop_slot : Stop → Option (ℕ × ℕ)
+unfoldable pub stop_slot : Stop → Option Slot
 stop_slot (Stop.Frame q) = rx_slot q
 stop_slot (Stop.Outbound q) = rx_slot q
 stop_slot (Stop.Ack a) = tx_slot a.task
 stop_slot (Stop.AckAgain a) = tx_slot a.task
 
-abbrev pub alone : Option (ℕ × ℕ) → Pending
+abbrev pub alone : Option Slot → Pending
 alone h = record { first = h; second = None }
 
 unfoldable pub transition_slots : Transition → Pending

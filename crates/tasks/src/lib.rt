@@ -3,8 +3,8 @@
 #![tactic(auto)]
 
 ghost use Rattle.std.specs.Prelude.{◌≡◌};
-ghost use Rattle.tasks.specs.Pending.{left_slot, next_slot, asked_slot, stop_slot, transition_slots, pending_of};
-ghost use Rattle.tasks.specs.Answers.{to_tx, to_rx, answers_of};
+ghost use Rattle.tasks.specs.Pending.{tx_holds, rx_holds, left_slot, next_slot, asked_slot, stop_slot, transition_slots, pending_of};
+ghost use Rattle.tasks.specs.Answers.{answer_to, answers_of};
 
 use phy::Ifs;
 use radio_frame::Settings;
@@ -244,61 +244,90 @@ pub struct Allowed {
 
 // ---- The unanswered requests of a wait
 
+// What an unanswered request holds until its answer returns it.
+#[derive(Clone, Copy)]
+pub struct Slot {
+    pub token: u32,
+    pub buffer: u8,
+}
+
+impl From<TxTask> for Slot {
+    ghost from_gives = { λ tx r. r ≡ tx_holds tx };
+
+    fn from(tx: TxTask) -> Slot {
+        Slot {
+            token: tx.token,
+            buffer: tx.buffer,
+        }
+    }
+}
+
+impl From<RxTask> for Slot {
+    ghost from_gives = { λ rx r. r ≡ rx_holds rx };
+
+    fn from(rx: RxTask) -> Slot {
+        Slot {
+            token: rx.token,
+            buffer: rx.buffer,
+        }
+    }
+}
+
 // The unanswered requests of a wait, the earlier one first.
 #[derive(Clone, Copy)]
 pub struct Pending {
-    pub first: Option<(u32, u8)>,
-    pub second: Option<(u32, u8)>,
+    pub first: Option<Slot>,
+    pub second: Option<Slot>,
 }
 
 #[tactic(auto, unfolding(crate::specs::Pending::left_slot))]
-fn left_slot(l: Left) -> Option<(u32, u8)>
+fn left_slot(l: Left) -> Option<Slot>
     ensures { result ≡ left_slot l }
 {
     match l {
         Left::Off => None,
-        Left::Receiving(q) => Some((q.token, q.buffer)),
-        Left::Sending(q) => Some((q.token, q.buffer)),
+        Left::Receiving(q) => Some(q.into()),
+        Left::Sending(q) => Some(q.into()),
         Left::SendingAck => None,
-        Left::ReceivingAck(a) => Some((a.task.token, a.task.buffer)),
+        Left::ReceivingAck(a) => Some(a.task.into()),
     }
 }
 
 #[tactic(auto, unfolding(crate::specs::Pending::next_slot))]
-fn next_slot(n: Next) -> Option<(u32, u8)>
+fn next_slot(n: Next) -> Option<Slot>
     ensures { result ≡ next_slot n }
 {
     match n {
-        Next::Tx(q, _) => Some((q.token, q.buffer)),
-        Next::Rx(q) => Some((q.token, q.buffer)),
+        Next::Tx(q, _) => Some(q.into()),
+        Next::Rx(q) => Some(q.into()),
         Next::Off => None,
     }
 }
 
 #[tactic(auto, unfolding(crate::specs::Pending::asked_slot))]
-fn asked_slot(a: Asked) -> Option<(u32, u8)>
+fn asked_slot(a: Asked) -> Option<Slot>
     ensures { result ≡ asked_slot a }
 {
     match a {
         Asked::Idle => None,
-        Asked::AfterWindow(q) => Some((q.token, q.buffer)),
-        Asked::AfterAckWindow(q, _) => Some((q.token, q.buffer)),
-        Asked::Receiving(q, _) => Some((q.token, q.buffer)),
-        Asked::Sending(q) => Some((q.token, q.buffer)),
+        Asked::AfterWindow(q) => Some(q.into()),
+        Asked::AfterAckWindow(q, _) => Some(q.into()),
+        Asked::Receiving(q, _) => Some(q.into()),
+        Asked::Sending(q) => Some(q.into()),
         Asked::SendingAck(_) => None,
-        Asked::ReceivingAck(b) => Some((b.task.token, b.task.buffer)),
+        Asked::ReceivingAck(b) => Some(b.task.into()),
     }
 }
 
 #[tactic(auto, unfolding(crate::specs::Pending::stop_slot))]
-fn stop_slot(p: Stop) -> Option<(u32, u8)>
+fn stop_slot(p: Stop) -> Option<Slot>
     ensures { result ≡ stop_slot p }
 {
     match p {
-        Stop::Frame(q) => Some((q.token, q.buffer)),
-        Stop::Outbound(q) => Some((q.token, q.buffer)),
-        Stop::Ack(a) => Some((a.task.token, a.task.buffer)),
-        Stop::AckAgain(a) => Some((a.task.token, a.task.buffer)),
+        Stop::Frame(q) => Some(q.into()),
+        Stop::Outbound(q) => Some(q.into()),
+        Stop::Ack(a) => Some(a.task.into()),
+        Stop::AckAgain(a) => Some(a.task.into()),
     }
 }
 
@@ -312,15 +341,15 @@ fn transition_slots(e: Transition) -> Pending
             second: next_slot(n),
         },
         Transition::Rearm(q) => Pending {
-            first: Some((q.token, q.buffer)),
+            first: Some(q.into()),
             second: None,
         },
         Transition::AckTurn(q, _) => Pending {
-            first: Some((q.token, q.buffer)),
+            first: Some(q.into()),
             second: None,
         },
         Transition::AckWait(q, _) => Pending {
-            first: Some((q.token, q.buffer)),
+            first: Some(q.into()),
             second: None,
         },
     }
@@ -338,7 +367,7 @@ pub fn pending_requests(w: Wait) -> Pending
         },
         Wait::Entering(e) => transition_slots(e),
         Wait::Listening(q) => Pending {
-            first: Some((q.token, q.buffer)),
+            first: Some(q.into()),
             second: None,
         },
         Wait::Stopping(p) => Pending {
@@ -346,7 +375,7 @@ pub fn pending_requests(w: Wait) -> Pending
             second: None,
         },
         Wait::Reading(q) => Pending {
-            first: Some((q.token, q.buffer)),
+            first: Some(q.into()),
             second: None,
         },
     }
@@ -354,26 +383,16 @@ pub fn pending_requests(w: Wait) -> Pending
 
 // ---- Answers
 
-// An answer to a transmit request: its token, its buffer back, what it came to. (One function for each kind of request: a trait over the
-// two would be longer than both.)
-pub fn tx_answer(tx: TxTask, response: Response) -> Answer
-    ensures { result ≡ to_tx tx response }
-{
-    Answer {
-        token: tx.token,
-        buffer: tx.buffer,
-        response,
-    }
-}
-
-// An answer to a receive request.
-pub fn rx_answer(rx: RxTask, response: Response) -> Answer
-    ensures { result ≡ to_rx rx response }
-{
-    Answer {
-        token: rx.token,
-        buffer: rx.buffer,
-        response,
+impl Slot {
+    // The answer to the request: its token, its buffer back, what it came to.
+    pub fn answer(self, response: Response) -> Answer
+        ensures { result ≡ answer_to self response }
+    {
+        Answer {
+            token: self.token,
+            buffer: self.buffer,
+            response,
+        }
     }
 }
 

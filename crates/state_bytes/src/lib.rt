@@ -56,6 +56,7 @@ pub fn encode(s: State) -> [u8; 64]
     encode_parts(s.set, wait_parts::wait_parts(s.wait))
 }
 
+// Field after field, each of its own width and place: no loop.
 #[tactic(auto, unfolding(crate::specs::Layout::settings_at))]
 fn settings_at(bytes: &[u8]) -> Settings
     ensures { result ≡ settings_at bytes.now }
@@ -86,6 +87,7 @@ fn task_at(bytes: &[u8], at: usize) -> TxTask
     }
 }
 
+// Field after field, as settings_at.
 #[tactic(auto, unfolding(crate::specs::Layout::parts_at))]
 fn parts_at(bytes: &[u8]) -> Parts
     ensures { result ≡ parts_at bytes.now }

@@ -213,7 +213,7 @@ pub struct Answer {
     pub response: Response,
 }
 
-// Up to two answers, the earlier request's first.
+// Up to two answers, the earlier request's first. (Not a Vec, as there is no heap, nor two Options, which could be None and Some.)
 #[derive(Clone, Copy)]
 pub enum Answers {
     None,
@@ -244,13 +244,15 @@ pub struct Allowed {
 
 // ---- The unanswered requests of a wait
 
-// What an unanswered request holds until its answer returns it.
+// What an unanswered request holds until its answer returns it. (Not RxTask, which has the same fields: that says which kind of request it
+// is.)
 #[derive(Clone, Copy)]
 pub struct Slot {
     pub token: u32,
     pub buffer: u8,
 }
 
+// One From for each kind of request, as the language has it.
 impl From<TxTask> for Slot {
     ghost from_gives = { λ tx r. r ≡ tx_holds tx };
 

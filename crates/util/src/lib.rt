@@ -41,7 +41,7 @@ pub fn part(s: &[u8], at: usize, n: usize) -> &[u8]
 
 // The N bytes from a place on; a byte past the end reads as 0. (Header's function of this name gives none where one is missing.)
 #[tactic(auto, using(crate::proofs::Numbers::from_place))]
-fn bytes_at<const N: usize>(s: &[u8], at: usize) -> [u8; N]
+pub fn bytes_at<const N: usize>(s: &[u8], at: usize) -> [u8; N]
     ensures { number_at result 0 N ≡ number_at s.now at N }
 {
     let found = part(s, at, N);

@@ -1,4 +1,5 @@
 -- `fcs::check_fcs` meets its contract: of a frame that is not refused, by its last two bytes.
+-- With `answered` in `using`, as it is or over the rest, the last two bytes and their equations, the search gave up at a limit.
 -- Assumes nothing.
 use Rattle.std.proofs.Common.{arith}
 use Rattle.fcs.proofs.Check.{answered}

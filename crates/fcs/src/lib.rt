@@ -104,7 +104,7 @@ fn divided_once(register: u16) -> u16
 }
 
 // Whether the last two bytes of a frame are the checksum of the rest.
-#[tactic(auto, using(crate::proofs::Check::answered_refused))]
+#[tactic(auto, using(crate::proofs::Check::answered, crate::proofs::Check::answered_refused))]
 pub fn check_fcs(frame: &[u8]) -> Result<bool, Refusal>
     ensures { FcsChecked frame.now result }
 {

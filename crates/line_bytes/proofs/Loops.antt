@@ -1,43 +1,76 @@
 -- What the loops of writing and of reading have done so far, on plain lists.
 -- Assumes nothing.
-use Rattle.std.proofs.Common.{ℕ, zero, suc, ◌≡◌, ◌+◌, ◌-◌, ◌*◌, ◌<◌, ◌≤◌, List, [], ◌∷◌, ◌++◌, length, get_or, drop, replicate, append_assoc, refl, ap, arith}
+use Rattle.std.proofs.Common.{ℕ, zero, suc, ◌≡◌, ◌+◌, ◌-◌, ◌<◌, ◌≤◌, min, List, [], ◌∷◌, ◌++◌, map, length, get_or, take, drop, replicate, append_assoc, refl, sym, ◌∙◌, arith}
 use Rattle.std.specs.List.{flat_map}
-use lib.Pointwise.{pointwise}
-use lib.Dec.{eqb}
-use mathlib.Core.Bool.{◌&&◌}
+use Rattle.std.proofs.lemmas.List.{take_min, drop_min, take_all}
+use lib.Seq.{get_or-take, take-append_seam, drop-append_seam}
 use borrow.Author.Tests.{eq-eqb, ne_eqb}
 use Rattle.tasks.specs.declared.Request.{Request}
-use Rattle.state_bytes.specs.Valid.{same_list}
-use Rattle.line_bytes.specs.Layout.{record_bytes, written_line, request_at, read_records}
+use Rattle.util.specs.Bytes.{number_at}
+use Rattle.line_bytes.specs.Layout.{record_bytes, free_bytes, written_line, request_at, read_records}
 
--- the records of all requests, and zeros behind them
-pub all_written : (qs : List Request) → length qs ≤ 4 → flat_map record_bytes qs ++ replicate (96 - 24 * length qs) 0 ≡ written_line qs
+-- the records of all requests, and free ones behind them
+all_records : (qs : List Request) → length qs ≤ 4 → flat_map (λ x. x) (map record_bytes qs ++ replicate (4 - length qs) free_bytes) ≡ written_line qs
 unfolding written_line
-all_written [] h = refl
-all_written (a ∷ []) h = refl
-all_written (a ∷ b ∷ []) h = refl
-all_written (a ∷ b ∷ c ∷ []) h = refl
-all_written (a ∷ b ∷ c ∷ d ∷ []) h = refl
-all_written (a ∷ b ∷ c ∷ d ∷ e ∷ qs) h = absurd (omega arith)
+all_records [] h = refl
+all_records (a ∷ []) h = refl
+all_records (a ∷ b ∷ []) h = refl
+all_records (a ∷ b ∷ c ∷ []) h = refl
+all_records (a ∷ b ∷ c ∷ d ∷ []) h = refl
+all_records (a ∷ b ∷ c ∷ d ∷ e ∷ qs) h = absurd (omega arith)
 
--- one more request read
-pub read_more : (line : List Request) (i : ℕ) (bytes : List ℕ) → i < 4 → (get_or bytes 0 0 ≡ 0 → ⊥)
-    → (line ++ request_at bytes ∷ []) ++ read_records (4 - (i + 1)) (drop 24 bytes) ≡ line ++ read_records (4 - i) bytes
+pub all_written : (qs : List Request) (i : ℕ) → length qs ≤ i → i ≤ length qs → length qs ≤ 4
+    → flat_map (λ x. x) (map record_bytes (take i qs) ++ replicate (4 - i) free_bytes) ≡ written_line qs
+all_written qs i a b h = let e : i ≡ length qs = omega arith in rw (take_all i qs a, e) (all_records qs h)
+
+-- a front that has all bytes of a number gives the same number
+number_in_front : (bytes : List ℕ) (w k n : ℕ) → k + n ≤ w → number_at (take w bytes) k n ≡ number_at bytes k n
+unfolding number_at
+number_in_front bytes w k zero h = refl
+number_in_front bytes w k (suc n) h = rw (get_or-take w bytes k 0 (omega arith), number_in_front bytes w (k + 1) n (omega arith))
+
+-- ---- Reading: bytes cut into their front record and what is behind it
+module _ (bytes front rest : List ℕ) (e : bytes ≡ front ++ rest) (n : length front ≡ min 24 (length bytes)) where
+  cut : (front ≡ take 24 bytes) × (rest ≡ drop 24 bytes)
+  cut =
+      let a : take (length front) bytes ≡ front = rw e (take-append_seam front rest) in
+      let b : drop (length front) bytes ≡ rest = rw e (drop-append_seam front rest) in
+      (sym a ∙ rw n (take_min 24 bytes), sym b ∙ rw n (drop_min 24 bytes))
+
+  kind_in_front : get_or front 0 0 ≡ get_or bytes 0 0
+  kind_in_front = rw cut.0 (get_or-take 24 bytes 0 0 (omega arith))
+
+  request_in_front : request_at front ≡ request_at bytes
+  unfolding request_at
+  request_in_front =
+      rw (
+        cut.0,
+        number_in_front bytes 24 4 4 (omega arith),
+        number_in_front bytes 24 8 8 (omega arith),
+        number_in_front bytes 24 16 2 (omega arith),
+        get_or-take 24 bytes 0 0 (omega arith),
+        get_or-take 24 bytes 1 0 (omega arith),
+        get_or-take 24 bytes 2 0 (omega arith),
+        get_or-take 24 bytes 3 0 (omega arith),
+      )
+
+  -- one more request read
+  pub read_more : (line : List Request) (left after : ℕ) → after + 1 ≡ left → (get_or front 0 0 ≡ 0 → ⊥)
+      → (line ++ request_at front ∷ []) ++ read_records after rest ≡ line ++ read_records left bytes
+  unfolding read_records
+  read_more line left after s k =
+      let l : left ≡ suc after = omega arith in
+      rw (l, ne_eqb (get_or bytes 0 0) 0 (λ z. k (kind_in_front ∙ z)), request_in_front, cut.1) (append_assoc line (request_at bytes ∷ []) _)
+
+  -- none is read of a free record, or of those behind it
+  pub free_ends : (left : ℕ) → get_or front 0 0 ≡ 0 → read_records left bytes ≡ []
+  unfolding read_records
+  free_ends zero h = refl
+  free_ends (suc left) h = rw (eq-eqb (get_or bytes 0 0) 0 (sym kind_in_front ∙ h))
+
+-- nor where no bytes are left
+pub none_left : (left : ℕ) (bytes : List ℕ) → (0 < left → length bytes ≡ 0) → read_records left bytes ≡ []
 unfolding read_records
-read_more line i bytes h k =
-    let e : 4 - i ≡ suc (4 - (i + 1)) = omega arith in
-    rw (e, ne_eqb (get_or bytes 0 0) 0 k) (append_assoc line (request_at bytes ∷ []) _)
-
--- none is read of a free record
-pub free_ends : (n : ℕ) (bytes : List ℕ) → get_or bytes 0 0 ≡ 0 → read_records n bytes ≡ []
-unfolding read_records
-free_ends zero bytes h = refl
-free_ends (suc n) bytes h = rw (eq-eqb (get_or bytes 0 0) 0 h)
-
--- the library's test of two slices
-pub pointwise_same : (a b : List ℕ) → pointwise eqb a b ≡ same_list a b
-unfolding same_list
-pointwise_same [] [] = refl
-pointwise_same [] (y ∷ ys) = refl
-pointwise_same (x ∷ xs) [] = refl
-pointwise_same (x ∷ xs) (y ∷ ys) = ap (λ t. eqb x y && t) (pointwise_same xs ys)
+none_left zero bytes h = refl
+none_left (suc left) [] h = refl
+none_left (suc left) (b ∷ bytes) h = absurd (let z : suc (length bytes) ≡ 0 = h (omega arith) in omega arith)

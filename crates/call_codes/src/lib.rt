@@ -84,6 +84,8 @@ fn received_of(code: u8, length: u16, time: u64, quality: u8) -> Option<RxResult
     }
 }
 
+// Two functions, here and below, since they build the cases of two enums: a generic one would take its first two values and a
+// closure for the third from each caller, and be longer than both.
 #[tactic(auto, unfolding(crate::specs::Codes::stop_of, crate::specs::Codes::received_of))]
 fn stop_of(code: u8, length: u16, time: u64, quality: u8) -> Option<StopResult>
     ensures { result ≡ then_some (known (stop_table length time quality) code) (stop_of length time quality code) }

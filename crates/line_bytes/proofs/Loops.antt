@@ -29,6 +29,11 @@ unfolding number_at
 number_in_front bytes w k zero h = refl
 number_in_front bytes w k (suc n) h = rw (get_or-take w bytes k 0 (omega arith), number_in_front bytes w (k + 1) n (omega arith))
 
+-- .. and a front that has a whole record the same request
+request_of_front : (bytes : List ℕ) (w : ℕ) → 24 ≤ w → request_at (take w bytes) ≡ request_at bytes
+unfolding request_at
+request_of_front bytes w h = grind (arith, number_in_front, get_or-take)
+
 -- ---- Reading: bytes cut into their front record and what is behind it
 module _ (bytes front rest : List ℕ) (e : bytes ≡ front ++ rest) (n : length front ≡ min 24 (length bytes)) where
   cut : (front ≡ take 24 bytes) × (rest ≡ drop 24 bytes)
@@ -41,18 +46,7 @@ module _ (bytes front rest : List ℕ) (e : bytes ≡ front ++ rest) (n : length
   kind_in_front = rw cut.0 (get_or-take 24 bytes 0 0 (omega arith))
 
   request_in_front : request_at front ≡ request_at bytes
-  unfolding request_at
-  request_in_front =
-      rw (
-        cut.0,
-        number_in_front bytes 24 4 4 (omega arith),
-        number_in_front bytes 24 8 8 (omega arith),
-        number_in_front bytes 24 16 2 (omega arith),
-        get_or-take 24 bytes 0 0 (omega arith),
-        get_or-take 24 bytes 1 0 (omega arith),
-        get_or-take 24 bytes 2 0 (omega arith),
-        get_or-take 24 bytes 3 0 (omega arith),
-      )
+  request_in_front = rw cut.0 (request_of_front bytes 24 (omega arith))
 
   -- one more request read
   pub read_more : (line : List Request) (left after : ℕ) → after + 1 ≡ left → (get_or front 0 0 ≡ 0 → ⊥)

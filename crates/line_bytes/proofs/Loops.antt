@@ -1,6 +1,9 @@
 -- What the loops of writing and of reading have done so far, on plain lists.
 -- Assumes nothing.
-use Rattle.std.proofs.Common.{ℕ, zero, suc, ◌≡◌, ◌+◌, ◌-◌, ◌<◌, ◌≤◌, min, List, [], ◌∷◌, ◌++◌, map, length, get_or, take, drop, replicate, append_assoc, refl, sym, ◌∙◌, arith}
+use Rattle.std.proofs.Common.{ℕ, zero, suc, ◌≡◌, ◌+◌, ◌-◌, ◌<◌, ◌≤◌, min, List, [], ◌∷◌, ◌++◌, map, length, get_or, take, drop, replicate, append_assoc, refl, sym, ap, ◌∙◌, arith}
+pub use Rattle.std.proofs.Common.{append-nil}
+pub use Rattle.std.proofs.lemmas.List.{length_push}
+pub use borrow.Author.Tests.{lt-leb}
 use Rattle.std.specs.List.{flat_map}
 use Rattle.std.proofs.lemmas.List.{take_min, drop_min, take_all}
 use lib.Seq.{get_or-take, take-append_seam, drop-append_seam}
@@ -35,36 +38,49 @@ unfolding request_at
 request_of_front bytes w h = grind (arith, number_in_front, get_or-take)
 
 -- ---- Reading: bytes cut into their front record and what is behind it
-module _ (bytes front rest : List ℕ) (e : bytes ≡ front ++ rest) (n : length front ≡ min 24 (length bytes)) where
-  cut : (front ≡ take 24 bytes) × (rest ≡ drop 24 bytes)
-  cut =
-      let a : take (length front) bytes ≡ front = rw e (take-append_seam front rest) in
-      let b : drop (length front) bytes ≡ rest = rw e (drop-append_seam front rest) in
-      (sym a ∙ rw n (take_min 24 bytes), sym b ∙ rw n (drop_min 24 bytes))
+module _ (front rest : List ℕ) where
+  cut : length front ≡ min 24 (length (front ++ rest)) → (front ≡ take 24 (front ++ rest)) × (rest ≡ drop 24 (front ++ rest))
+  cut n =
+      let a : take (length front) (front ++ rest) ≡ front = take-append_seam front rest in
+      let b : drop (length front) (front ++ rest) ≡ rest = drop-append_seam front rest in
+      (sym a ∙ rw n (take_min 24 (front ++ rest)), sym b ∙ rw n (drop_min 24 (front ++ rest)))
 
-  kind_in_front : get_or front 0 0 ≡ get_or bytes 0 0
-  kind_in_front = rw cut.0 (get_or-take 24 bytes 0 0 (omega arith))
+  kind_in_front : length front ≡ min 24 (length (front ++ rest)) → get_or (front ++ rest) 0 0 ≡ get_or front 0 0
+  kind_in_front n = sym (get_or-take 24 (front ++ rest) 0 0 (omega arith)) ∙ ap (λ xs. get_or xs 0 0) (sym (cut n).0)
 
-  request_in_front : request_at front ≡ request_at bytes
-  request_in_front = rw cut.0 (request_of_front bytes 24 (omega arith))
-
-  -- one more request read
-  pub read_more : (line : List Request) (left after : ℕ) → after + 1 ≡ left → (get_or front 0 0 ≡ 0 → ⊥)
-      → (line ++ request_at front ∷ []) ++ read_records after rest ≡ line ++ read_records left bytes
+  -- the request of a record that is not free, and what is behind it
+  one_read : (left after : ℕ) → left ≡ suc after → length front ≡ min 24 (length (front ++ rest)) → (get_or front 0 0 ≡ 0 → ⊥)
+      → read_records left (front ++ rest) ≡ request_at front ∷ read_records after rest
   unfolding read_records
-  read_more line left after s k =
-      let l : left ≡ suc after = omega arith in
-      rw (l, ne_eqb (get_or bytes 0 0) 0 (λ z. k (kind_in_front ∙ z)), request_in_front, cut.1) (append_assoc line (request_at bytes ∷ []) _)
+  one_read left after s n k =
+      let c = cut n in
+      let q : request_at front ≡ request_at (front ++ rest) = ap request_at c.0 ∙ request_of_front (front ++ rest) 24 (omega arith) in
+      rw (s, ne_eqb (get_or (front ++ rest) 0 0) 0 (λ z. k (sym (kind_in_front n) ∙ z)), q, ← c.1) refl
+
+  pub read_more : (left : ℕ) → 0 < left → length front ≡ min 24 (length (front ++ rest)) → (get_or front 0 0 ≡ 0 → ⊥)
+      → read_records left (front ++ rest) ≡ request_at front ∷ read_records (left - 1) rest
+  read_more left s n k = one_read left (left - 1) (omega arith) n k
 
   -- none is read of a free record, or of those behind it
-  pub free_ends : (left : ℕ) → get_or front 0 0 ≡ 0 → read_records left bytes ≡ []
+  pub free_ends : (left : ℕ) → length front ≡ min 24 (length (front ++ rest)) → get_or front 0 0 ≡ 0 → read_records left (front ++ rest) ≡ []
   unfolding read_records
-  free_ends zero h = refl
-  free_ends (suc left) h = rw (eq-eqb (get_or bytes 0 0) 0 (sym kind_in_front ∙ h))
+  free_ends zero n h = refl
+  free_ends (suc left) n h = rw (eq-eqb (get_or (front ++ rest) 0 0) 0 (kind_in_front n ∙ h))
 
 -- nor where no bytes are left
-pub none_left : (left : ℕ) (bytes : List ℕ) → (0 < left → length bytes ≡ 0) → read_records left bytes ≡ []
+pub none_left : (left : ℕ) (bytes : List ℕ) → length bytes ≡ 0 → read_records left bytes ≡ []
 unfolding read_records
 none_left zero bytes h = refl
 none_left (suc left) [] h = refl
-none_left (suc left) (b ∷ bytes) h = absurd (let z : suc (length bytes) ≡ 0 = h (omega arith) in omega arith)
+none_left (suc left) (b ∷ bytes) h = absurd (omega arith)
+
+pub none_wanted : (left : ℕ) (bytes : List ℕ) → left ≡ 0 → read_records left bytes ≡ []
+unfolding read_records
+none_wanted left bytes h = rw h
+
+-- one more request at the end of the line
+pub one_more : {A : Type 0} (xs : List A) (x : A) (ys : List A) → (xs ++ x ∷ []) ++ ys ≡ xs ++ x ∷ ys
+one_more xs x ys = append_assoc xs (x ∷ []) ys
+
+-- what the search is given for the loop of line_at
+pub ruleset reading = (read_more, free_ends, none_left, none_wanted, one_more, append-nil, length_push, lt-leb)

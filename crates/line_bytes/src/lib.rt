@@ -129,6 +129,7 @@ fn request_at(bytes: &[u8]) -> Request
 }
 
 // The requests of the records before the first one that is free.
+#[tactic(auto, unfolding(crate::specs::Layout::line_at), using(crate::proofs::Loops::reading))]
 fn line_at(bytes: &[u8]) -> Line
     ensures { result ≡ line_at bytes.now }
 {

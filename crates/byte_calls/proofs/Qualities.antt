@@ -29,7 +29,7 @@ use Rattle.engine.specs.Qualities.{task_with, stop_with, call_with, response_wit
 use Rattle.engine.proofs.Reasons.{every_quality_is_told}
 use Rattle.engine.proofs.Qualities.{quality_decides_nothing}
 use Rattle.state_bytes.specs.Layout.{state_at}
-use Rattle.state_bytes.proofs.Same.{and_left}
+use Rattle.std.proofs.lemmas.Bool.{and_parts}
 use Rattle.reply_bytes.specs.declared.ActionFields.{ActionFields}
 use Rattle.reply_bytes.specs.declared.AnswerFields.{AnswerFields}
 use Rattle.reply_bytes.specs.declared.CameTo.{CameTo}
@@ -63,7 +63,7 @@ call_told (ExportedCall.Stopped outcome length time k) h = refl
 call_told (ExportedCall.Header arrived length) h = refl
 call_told (ExportedCall.Entered result length time entry k) h = result_told length time k result h
 call_told (ExportedCall.Fallback result length time cause causeTime k) h =
-    result_told length time k result (and_left (ltb result 5) (known (cause_table causeTime) cause) h)
+    result_told length time k result ((and_parts (ltb result 5) (known (cause_table causeTime) cause) h).0)
 call_told ExportedCall.Rollback h = refl
 
 module _ (x : ExportedCall) where

@@ -5,13 +5,12 @@ use mathlib.Core.Path.{◌≡◌, refl, sym}
 use mathlib.Core.Bool.{Bool, true, false, true≢false, cond, ◌||◌}
 use mathlib.Core.List.{List, [], ◌∷◌}
 use lib.Dec.{leb, eqb}
-use Rattle.std.proofs.lemmas.Bool.{or_parts}
+use Rattle.std.proofs.lemmas.Bool.{and_parts, or_parts}
 use borrow.Author.Tests.{leb-false, lt-leb, eqb-false, ne_eqb}
 use Rattle.tasks.specs.declared.Request.{Request}
 use Rattle.tasks.specs.declared.State.{State}
 use Rattle.requests.specs.Requests.{token_held, buffer_held, tx_length_unfit, arrival_refusal}
 use Rattle.waiting_line.specs.Line.{any_passes, has_token, has_buffer}
-use Rattle.state_bytes.proofs.Same.{and_left, and_right}
 use Rattle.line_bytes.specs.Valid.{request_fits, line_fits, Every, FitsInWords, FitsExactly}
 
 -- no refusal is met exactly if no test is true
@@ -72,8 +71,8 @@ module _ (s : State) where
   in_words [] h =
       record { lengths = tt; buffers_in_range = tt; buffers_not_held = tt; tokens_not_held = tt; buffers_differ = tt; tokens_differ = tt }
   in_words (q ∷ qs) h =
-      let p = request_passes q qs (and_left (request_fits s q qs) (line_fits s qs) h) in
-      let w = in_words qs (and_right (request_fits s q qs) (line_fits s qs) h) in
+      let p = request_passes q qs (and_parts (request_fits s q qs) (line_fits s qs) h).0 in
+      let w = in_words qs (and_parts (request_fits s q qs) (line_fits s qs) h).1 in
       record {
         lengths = (p.4, w.lengths);
         buffers_in_range = (leb-false s.set.count q.buffer p.1, w.buffers_in_range);

@@ -14,7 +14,8 @@ use Rattle.tasks.specs.declared.State.{State}
 use Rattle.tasks.specs.declared.Task.{Task}
 use Rattle.tasks.specs.declared.Timestamp.{Timestamp}
 use Rattle.state_bytes.specs.Valid.{same_list}
-use Rattle.state_bytes.proofs.Same.{and_left, and_right, same_true, same_refl}
+use Rattle.std.proofs.lemmas.Bool.{and_parts}
+use Rattle.state_bytes.proofs.Same.{same_true, same_refl}
 use Rattle.line_bytes.specs.Layout.{start_fields, task_fields, record_bytes, written_records, written_line, start_at, task_at, request_at, read_records, line_at}
 use Rattle.line_bytes.specs.Valid.{line_fits, holds_line, Every, RequestSized, LineSized, LineReadsBack, LinePasses, LineWrittenFrom, LineHeldExactly}
 
@@ -128,8 +129,8 @@ read_from s bytes A h =
     record {
       line = l;
       sized = line_sized bytes A;
-      fits = and_left fits written h;
-      written = same_true (written_line l) bytes (and_right fits written h);
+      fits = (and_parts fits written h).0;
+      written = same_true (written_line l) bytes ((and_parts fits written h).1);
     }
 
 pub line_held_exactly : LineHeldExactly

@@ -16,7 +16,7 @@ use Rattle.util.proofs.Stores.{over}
 use Rattle.engine.specs.Step.{Outcome}
 use Rattle.state_bytes.specs.Layout.{state_at, written_state}
 use Rattle.state_bytes.specs.Valid.{holds_state, decoded_of, decoded_refusal}
-use Rattle.state_bytes.proofs.Same.{and_left, and_right}
+use Rattle.std.proofs.lemmas.Bool.{and_parts}
 use Rattle.reply_bytes.specs.Reply.{written_reply}
 use Rattle.slices.specs.Slices.{slices_fit, form_ok, if_accepted}
 use Rattle.slices.specs.Inner.{read_of, Finished}
@@ -35,7 +35,7 @@ module _ (o : Outcome) (st re : List ℕ) where
 pub lengths : (st re : List ℕ) → slices_fit (length st) (length re) ≡ true → (length st ≡ 64) × (length re ≡ 48)
 unfolding slices_fit
 lengths st re h =
-    (eqb-true _ _ (and_left (eqb (length st) 64) (eqb (length re) 48) h), eqb-true _ _ (and_right (eqb (length st) 64) (eqb (length re) 48) h))
+    (eqb-true _ _ ((and_parts (eqb (length st) 64) (eqb (length re) 48) h).0), eqb-true _ _ ((and_parts (eqb (length st) 64) (eqb (length re) 48) h).1))
 
 -- where the lengths are right, an accepted outcome is written and a refused one is not
 pub record Settled (o : Outcome) (st re : List ℕ) (r : ℕ) (st' re' : List ℕ) : Type 0 where
@@ -69,7 +69,7 @@ reads st n = go (slices_fit (length st) n) (holds_state st) refl refl
 
 pub form_lengths : (st : List ℕ) (n : ℕ) → form_ok st n ≡ true → slices_fit (length st) n ≡ true
 unfolding form_ok
-form_lengths st n h = and_left (slices_fit (length st) n) (holds_state st) h
+form_lengths st n h = (and_parts (slices_fit (length st) n) (holds_state st) h).0
 
 -- the number of a decoded state, or of the refusal of bytes that are those of none
 pub number_of_or : (o : Option State) → number_of (ok_or o Refusal.Slices) ≡ decoded_refusal o

@@ -68,8 +68,7 @@ fn previous_task(set: Settings, a: Asked) -> PreviousTask
 fn next_task(set: Settings, pool: &[u8], q: Request) -> Next
     ensures { result ≡ next_of set pool.now q q.task }
 {
-    let at = radio_frame::frame_start(set, q.buffer) as usize;
-    let number = radio_frame::ack_seq_num(util::part(pool, at, 3));
+    let number = radio_frame::ack_seq_num(radio_frame::frame_bytes(set, pool, q.buffer, 3));
     match q.task {
         Task::Tx(length, _) => {
             let task = TxTask {
@@ -107,7 +106,7 @@ pub fn taken(set: Settings, pool: &[u8], a: Asked, q: Request) -> Accepted
         set,
         Wait::Entering(Transition::Request(previous.left, next)),
         request_action(q, previous.spacing),
-        tasks::answers_of(previous.owed),
+        previous.owed.into(),
     )
 }
 
@@ -135,8 +134,7 @@ fn none(s: State, a: Asked) -> Result<Accepted, Refusal>
     ensures { told s result ≡ none_of s a }
 {
     match a {
-        Asked::Idle => Err(Refusal::Unfit),
-        Asked::AfterWindow(_) => Err(Refusal::Unfit),
+        Asked::Idle | Asked::AfterWindow(_) => Err(Refusal::Unfit),
         Asked::AfterAckWindow(q, t) => Ok(moves::to_idle(
             s.set,
             Answers::One(Slot::from(q).answer(Response::Nack(t))),

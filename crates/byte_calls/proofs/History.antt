@@ -1,6 +1,7 @@
 -- The whole list in the exported form: after every list of exported calls the state slice holds a valid state, and the book that
 -- is kept from the numbers and the reply's bytes is sound.
 -- Assumes nothing.
+use Rattle.std.proofs.lemmas.Bool.{and_right}
 use Prim.Native.Nat.{ℕ, ◌^◌, ◌<◌}
 use mathlib.Core.Path.{◌≡◌, refl, sym, ◌∙◌, ap}
 use mathlib.Core.Bool.{Bool, true, false, cond, ◌&&◌}
@@ -83,10 +84,6 @@ left_alone m t e = rw e (go t.slice)
     go last = refl
     go (other bytes) = refl
 
-and-false : (a : Bool) → (a && false) ≡ false
-and-false true = refl
-and-false false = refl
-
 -- a wrong state slice is refused
 wrong_slice : (st re po : List ℕ) (x : ExportedCall) → form_ok st 48 ≡ false → call_result st re po x ≡ 1
 unfolding call_result form_ok slices_fit
@@ -94,7 +91,7 @@ wrong_slice st re po x h = go (eqb (length re) 48) refl
   where
     go : (t : Bool) → eqb (length re) 48 ≡ t → call_result st re po x ≡ 1
     go true e = let w : ((eqb (length st) 64 && true) && holds_state st) ≡ false = h in simp (e, w)
-    go false e = simp (e, and-false (eqb (length st) 64))
+    go false e = simp (e, and_right (eqb (length st) 64) false refl)
 
 five_or_more : (k : ℕ) → or_five k ≡ 0 → ⊥
 five_or_more k = go (eqb k 0) refl

@@ -1,5 +1,6 @@
 -- Refusal 1, in document 01's own words.
 -- Assumes nothing.
+use Rattle.std.proofs.lemmas.Bool.{false_from_ne_true}
 use Prim.Native.Nat.{ℕ, ◌+◌, ◌^◌}
 use mathlib.Core.Path.{◌≡◌, refl, sym, ◌∙◌}
 use mathlib.Core.Bool.{Bool, true, false, cond, not, ◌&&◌, ◌||◌}
@@ -58,10 +59,6 @@ module _ (form : Bool) (rest : ℕ) (other : rest ≡ 1 → ⊥) where
   pub one_exactly : (cond (not form) 1 rest ≡ 1 → form ≡ true → ⊥) × (form ≡ false → cond (not form) 1 rest ≡ 1)
   one_exactly = (λ h e. other (rw e at h), λ e. rw e)
 
-is_false : (t : Bool) → (t ≡ true → ⊥) → t ≡ false
-is_false true h = absurd (h refl)
-is_false false h = refl
-
 module _ (st re po : List ℕ) (x : ExportedCall) {r : ℕ} (e : r ≡ exported_refusal st re po x) where
   abbrev rest : ℕ
   rest =
@@ -82,7 +79,7 @@ module _ (st re po : List ℕ) (x : ExportedCall) {r : ℕ} (e : r ≡ exported_
   call_one A =
       let F = form_exactly st (length re) A in
       let O = one_exactly (form_ok st (length re)) rest later in
-      (λ h R. O.0 (sym e ∙ h) (F.1 R), λ h. e ∙ O.1 (is_false (form_ok st (length re)) (λ t. h (F.0 t))))
+      (λ h R. O.0 (sym e ∙ h) (F.1 R), λ h. e ∙ O.1 (false_from_ne_true (form_ok st (length re)) (λ t. h (F.0 t))))
 
 module _ (n : StartNumbers) (st re po : List ℕ) {r : ℕ} (e : r ≡ start_refusal n st re po) where
   abbrev start_rest : ℕ
@@ -104,4 +101,4 @@ module _ (n : StartNumbers) (st re po : List ℕ) {r : ℕ} (e : r ≡ start_ref
   unfolding start_refusal
   start_one =
       let O = one_exactly (slices_fit (length st) (length re)) start_rest start_later in
-      (λ h L. O.0 (sym e ∙ h) (fit L), λ h. e ∙ O.1 (is_false (slices_fit (length st) (length re)) (λ t. h (lengths st re t))))
+      (λ h L. O.0 (sym e ∙ h) (fit L), λ h. e ∙ O.1 (false_from_ne_true (slices_fit (length st) (length re)) (λ t. h (lengths st re t))))

@@ -3,7 +3,7 @@
 -- Assumes nothing.
 use Prim.Native.Nat.{ℕ, zero, suc, ◌<◌}
 use mathlib.Core.Path.{◌≡◌, refl, ◌∙◌, ap}
-use mathlib.Core.Bool.{Bool, true, false, cond}
+use mathlib.Core.Bool.{Bool, true, false, true≢false, cond}
 use mathlib.Core.List.{List}
 use lib.Dec.{ltb, eqb}
 use lib.ListN.{length, get_or-map}
@@ -36,7 +36,7 @@ use Rattle.reply_bytes.specs.declared.CameTo.{CameTo}
 use Rattle.reply_bytes.specs.Reply.{action_fields, scheduling_fields, cause_fields, received_fields, response_fields, answer_fields, first_fields, second_fields, written_fields, written_reply}
 use Rattle.call_codes.specs.declared.ExportedCall.{ExportedCall}
 use Rattle.call_codes.specs.Codes.{stop_table, stop_of, result_table, result_of, cause_table, cause_of, known, known_of, call_of, with_quality, uses_quality, quality_used}
-use Rattle.call_codes.proofs.Qualities.{differ, unused_quality_ignored}
+use Rattle.call_codes.proofs.Qualities.{unused_quality_ignored}
 use Rattle.outcomes.specs.Outcomes.{unknown_of, made_outcome, made_pool}
 use Rattle.byte_calls.specs.Calls.{call_result, call_state, call_reply, call_pool, told_number, has_quality, answers_receive, CarriesQuality, but_qualities, QualityApart, QualityChangesNoOtherByte}
 
@@ -85,9 +85,9 @@ module _ (x : ExportedCall) where
       go (Response.Error (Cause.Scheduling Timestamp.BestEffort)) h = record { carried = refl; else_zero = λ z. refl }
       go (Response.Error (Cause.Scheduling (Timestamp.Scheduled t))) h = record { carried = refl; else_zero = λ z. refl }
       go (Response.Error Cause.Task) h = record { carried = refl; else_zero = λ z. refl }
-      go (Response.Received (RxResult.Frame n t k)) h = record { carried = h; else_zero = λ z. differ z }
+      go (Response.Received (RxResult.Frame n t k)) h = record { carried = h; else_zero = λ z. absurd (true≢false z) }
       go (Response.Received RxResult.RxWindowEnded) h = record { carried = h; else_zero = λ z. refl }
-      go (Response.Received (RxResult.CrcError t k)) h = record { carried = h; else_zero = λ z. differ z }
+      go (Response.Received (RxResult.CrcError t k)) h = record { carried = h; else_zero = λ z. absurd (true≢false z) }
 
   reply_carries : (k : known_of x ≡ true) (a : Answers) → AllCarryTold (call_of x) a → Carried (first_fields a).response × Carried (second_fields a).response
   unfolding first_fields second_fields answer_fields

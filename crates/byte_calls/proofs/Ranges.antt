@@ -1,5 +1,6 @@
 -- Every number of a state stays in its range, and so does every number of a call's reply.
 -- Assumes nothing.
+use Rattle.std.proofs.lemmas.Bool.{or_parts}
 use Rattle.std.proofs.Common.{Option, Some, None, ℕ}
 use Prim.Native.Nat.{ℕ, ◌+◌, ◌^◌, ◌<◌, ◌≤◌}
 use mathlib.Core.Path.{◌≡◌, refl}
@@ -55,7 +56,7 @@ use Rattle.stopping.specs.Stopping.{frame_stopped, outbound_stopped, ack_failed,
 use Rattle.reading.specs.Reading.{requested, number_to_acknowledge, rearm_move, receive_move, header_move_of, header_of, reading_of}
 use Rattle.engine.specs.Step.{wait_move, move_of}
 use Rattle.engine.proofs.Kept.{state_at}
-use Rattle.engine.proofs.Table.{move_to, passed, neither}
+use Rattle.engine.proofs.Table.{move_to, passed}
 use Rattle.wait_parts.specs.declared.Part.{Part}
 use Rattle.wait_parts.specs.Parts.{no_task, rx_task, part_of, asked_part, left_part, tx_part, next_part, stop_part, transition_parts, wait_parts_of}
 use Rattle.reply_bytes.specs.Reply.{TimestampFits, ActionFits, CauseFits, ReceivedFits, AnswerFits, AnswersFit, ReplyFits}
@@ -128,7 +129,7 @@ received_fits : (set : Settings) (x : RxResult) → ReceivedIn x → received_re
 unfolding received_refusal received_unfit
 received_fits set (RxResult.Frame n t quality) F h =
     let p = passed (eqb n 0 || ltb 127 (n + set.fcs_length)) 10 0 (omega arith) h in
-    let q = neither (eqb n 0) (ltb 127 (n + set.fcs_length)) p.0 in
+    let q = or_parts (eqb n 0) (ltb 127 (n + set.fcs_length)) p.0 in
     (omega (arith, ltb-false 127 (n + set.fcs_length) q.1), F)
 received_fits set RxResult.RxWindowEnded F h = tt
 received_fits set (RxResult.CrcError t quality) F h = F
@@ -190,7 +191,7 @@ module _ (set : Settings) (S : SettingsIn set) (pool : List ℕ) (A : AllBytes p
   next_in : (q : Request) (task : Task) → q.token < 2 ^ 32 → q.buffer < n → tx_length_unfit set task ≡ false → PartIn n (next_part (next_of set pool q task))
   unfolding next_of next_part tx_length_unfit
   next_in q (Task.Tx l cca) t b h =
-      let long = (neither (ltb l 3) (ltb 127 (l + set.fcs_length)) h).1 in
+      let long = (or_parts (ltb l 3) (ltb 127 (l + set.fcs_length)) h).1 in
       tx_in (record { token = q.token; buffer = q.buffer; length = l }) (frame_head set pool q.buffer) (take_bytes 3 (drop (frame_start set q.buffer) pool) (drop_bytes (frame_start set q.buffer) pool A)) t b
       (omega (arith, ltb-false 127 (l + set.fcs_length) long))
   next_in q Task.Rx t b h = (t, b, omega arith, omega arith, omega arith)
@@ -198,7 +199,7 @@ module _ (set : Settings) (S : SettingsIn set) (pool : List ℕ) (A : AllBytes p
   action_in : (q : Request) (spacing : Option Ifs) (task : Task) → TimestampFits q.start → tx_length_unfit set task ≡ false → ActionFits (request_action q spacing task)
   unfolding request_action tx_length_unfit
   action_in q spacing (Task.Tx l cca) t h =
-      (omega (arith, ltb-false 127 (l + set.fcs_length) (neither (ltb l 3) (ltb 127 (l + set.fcs_length)) h).1), t)
+      (omega (arith, ltb-false 127 (l + set.fcs_length) (or_parts (ltb l 3) (ltb 127 (l + set.fcs_length)) h).1), t)
   action_in q spacing Task.Rx t h = t
 
   request_in : (a : Asked) (q : Request) → PartIn n (asked_part a) → q.token < 2 ^ 32 → TimestampFits q.start → MoveIn (request_of (state_at set (Wait.Asking a)) pool a q)
@@ -209,7 +210,7 @@ module _ (set : Settings) (S : SettingsIn set) (pool : List ℕ) (A : AllBytes p
       let six = passed (token_held (Wait.Asking a) q.token) 6 _ (omega arith) ok in
       let seven = passed (leb n q.buffer || buffer_held (state_at set (Wait.Asking a)) q.buffer) 7 _ (omega arith) six.1 in
       let eight = passed (tx_length_unfit set q.task) 8 _ (omega arith) seven.1 in
-      let below = leb-false n q.buffer (neither (leb n q.buffer) _ seven.0).0 in
+      let below = leb-false n q.buffer (or_parts (leb n q.buffer) _ seven.0).0 in
       to (Wait.Entering (Transition.Request (previous_task_of set a).left (next_of set pool q q.task))) (answers_of (previous_task_of set a).owed) (action_in q (previous_task_of set a).spacing q.task st eight.0)
       (left_in a K, next_in q q.task t (omega (arith, below)) eight.0)
       (given_in a K))

@@ -15,9 +15,6 @@ use Rattle.tasks.specs.declared.TaskResult.{TaskResult}
 use Rattle.call_codes.specs.declared.ExportedCall.{ExportedCall}
 use Rattle.call_codes.specs.Codes.{stop_of, result_of, cause_table, cause_of, known, known_of, call_of, uses_quality, UnusedQualityIgnored}
 
-pub differ : {A : Type 0} → true ≡ false → A
-differ e = cc
-
 -- two tables of five cases that agree in those whose codes leave the quality unused
 unused_same : {A : Type 0} (a b c d e c' e' last last' : A) (code : ℕ) → ltb code 5 ≡ true → uses_quality code ≡ false
     → get_or (a ∷ b ∷ c ∷ d ∷ e ∷ []) code last ≡ get_or (a ∷ b ∷ c' ∷ d ∷ e' ∷ []) code last'

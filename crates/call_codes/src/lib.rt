@@ -1,7 +1,8 @@
 // What the numbers of an exported call stand for (docs/LAYOUTS.md, "Codes of the numbers").
 #![tactic(auto)]
 
-ghost use Rattle.std.specs.Prelude.{◌≡◌, ◌&&◌, ◌||◌, cond, eqb, Some, None};
+ghost use Rattle.std.specs.Bool.{then_some};
+ghost use Rattle.std.specs.Prelude.{◌≡◌, ◌&&◌, ◌||◌, eqb};
 ghost use Rattle.call_codes.specs.Codes.{timestamp_table, timestamp_of, task_table, task_of, received_of, stop_table, stop_of, result_table, result_of, cause_table, cause_of, known, known_flag, known_of, call_of, settings_of};
 
 use radio_frame::Settings;
@@ -38,7 +39,7 @@ pub struct StartNumbers {
 // ---- What the codes stand for; a code past the end of its table stands for nothing
 
 fn flag_of(code: u8) -> Option<bool>
-    ensures { result ≡ cond (known_flag code) (Some (eqb code 1)) None }
+    ensures { result ≡ then_some (known_flag code) (eqb code 1) }
 {
     match code {
         0 => Some(false),
@@ -49,7 +50,7 @@ fn flag_of(code: u8) -> Option<bool>
 
 #[tactic(auto, unfolding(crate::specs::Codes::timestamp_of))]
 fn timestamp_of(code: u8, time: u64) -> Option<Timestamp>
-    ensures { result ≡ cond (known (timestamp_table time) code) (Some (timestamp_of time code)) None }
+    ensures { result ≡ then_some (known (timestamp_table time) code) (timestamp_of time code) }
 {
     match code {
         0 => Some(Timestamp::BestEffort),
@@ -61,7 +62,7 @@ fn timestamp_of(code: u8, time: u64) -> Option<Timestamp>
 // An Rx leaves the flag unused.
 #[tactic(auto, unfolding(crate::specs::Codes::task_of))]
 fn task_of(code: u8, length: u16, cca: u8) -> Option<Task>
-    ensures { result ≡ cond (known (task_table length cca) code && (eqb code 1 || known_flag cca)) (Some (task_of length cca code)) None }
+    ensures { result ≡ then_some (known (task_table length cca) code && (eqb code 1 || known_flag cca)) (task_of length cca code) }
 {
     match code {
         0 => Some(Task::Tx(length, flag_of(cca)?)),
@@ -83,9 +84,11 @@ fn received_of(code: u8, length: u16, time: u64, quality: u8) -> Option<RxResult
     }
 }
 
+// Two functions, here and below, since they build the cases of two enums: a generic one would take its first two values and a
+// closure for the third from each caller, and be longer than both.
 #[tactic(auto, unfolding(crate::specs::Codes::stop_of, crate::specs::Codes::received_of))]
 fn stop_of(code: u8, length: u16, time: u64, quality: u8) -> Option<StopResult>
-    ensures { result ≡ cond (known (stop_table length time quality) code) (Some (stop_of length time quality code)) None }
+    ensures { result ≡ then_some (known (stop_table length time quality) code) (stop_of length time quality code) }
 {
     match code {
         0 => Some(StopResult::FrameStarted),
@@ -96,7 +99,7 @@ fn stop_of(code: u8, length: u16, time: u64, quality: u8) -> Option<StopResult>
 
 #[tactic(auto, unfolding(crate::specs::Codes::result_of, crate::specs::Codes::received_of))]
 fn result_of(code: u8, length: u16, time: u64, quality: u8) -> Option<TaskResult>
-    ensures { result ≡ cond (known (result_table length time quality) code) (Some (result_of length time quality code)) None }
+    ensures { result ≡ then_some (known (result_table length time quality) code) (result_of length time quality code) }
 {
     match code {
         0 => Some(TaskResult::Off),
@@ -107,7 +110,7 @@ fn result_of(code: u8, length: u16, time: u64, quality: u8) -> Option<TaskResult
 
 #[tactic(auto, unfolding(crate::specs::Codes::cause_of))]
 fn cause_of(code: u8, time: u64) -> Option<Cause>
-    ensures { result ≡ cond (known (cause_table time) code) (Some (cause_of time code)) None }
+    ensures { result ≡ then_some (known (cause_table time) code) (cause_of time code) }
 {
     match code {
         0 => Some(Cause::Scheduling(Timestamp::BestEffort)),
@@ -121,7 +124,7 @@ impl ExportedCall {
     // The engine's call, if all codes that the call uses stand for something.
     #[tactic(auto, unfolding(crate::specs::Codes::known_of, crate::specs::Codes::call_of))]
     pub fn call(self) -> Option<Call>
-        ensures { result ≡ cond (known_of self) (Some (call_of self)) None }
+        ensures { result ≡ then_some (known_of self) (call_of self) }
     {
         Some(match self {
             ExportedCall::Request(token, direction, start, time, buffer, length, cca) =>

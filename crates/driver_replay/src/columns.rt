@@ -1,4 +1,5 @@
 // A record of 64 bytes by its columns, with the names and places of docs/REPLAY-FORMAT.md.
+use hex_digits::bytes;
 
 #[derive(Clone, Copy)]
 pub struct Record {
@@ -12,20 +13,6 @@ pub struct Record {
     pub y: char,
     pub z: bool,
     pub w: char,
-}
-
-// The value of a hexadecimal digit, '0' to '9' or 'a' to 'f'. Other bytes have one too, so that every record is read.
-fn digit(c: u8) -> u8 {
-    if c < 64 { c % 16 } else { (c % 16 + 9) % 16 }
-}
-
-// The bytes that pairs of digits are.
-fn bytes<const N: usize>(digits: &[u8]) -> [u8; N] {
-    let mut all = [0; N];
-    for (byte, [high, low]) in all.iter_mut().zip(digits.as_chunks::<2>().0) {
-        *byte = digit(*high) << 4 | digit(*low);
-    }
-    all
 }
 
 impl From<&[u8; 64]> for Record {

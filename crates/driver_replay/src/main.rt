@@ -28,7 +28,8 @@ const NO_SETTINGS: Settings = Settings {
     spare_buffer: 0,
 };
 
-// The state that the last call left, the pool, and how many bytes of it are lent.
+// The state that the last call left, the pool, and how many bytes of it are lent. An array with a length beside it: the memory is fixed,
+// with no heap, and what is lent may be shorter than the pool.
 #[derive(Drop)]
 struct Session {
     state: State,
@@ -112,7 +113,8 @@ impl Session {
     }
 }
 
-// The input ends where fewer bytes than a record's are left.
+// The input ends where fewer bytes than a record's are left. `for` with `break` is the form that the language has for a loop that ends
+// with its input.
 fn replay(rt: &impl Print, input: &mut impl io::Read) -> io::Result<()> {
     let mut session = Session::new();
     let mut line = [0u8; 64];

@@ -192,7 +192,9 @@ pub fn start(set: Settings, line: &mut Line, pool: &mut [u8]) -> Result<(State, 
     Ok(idle)
 }
 
-// ---- The line as a lent run of records; another number of them than four is refused by 1
+// ---- The line as a lent run of records; another number of them than four is refused by 1. One function that takes `step` or `start`
+// as a closure over the line and the pool was tried for the last two: it proves, but its contract is longer than both bodies, since it
+// must name the references that the closure gets and leaves, and with it the clauses of the two that call it stayed open.
 
 fn lent_line(run: &[RequestRecord]) -> Result<Line, Refusal>
     ensures ok { IfOk result (λ line. (length run.now ≡ 4) × (line ≡ take 4 (waiting run.now))) }
@@ -206,6 +208,7 @@ fn lent_line(run: &[RequestRecord]) -> Result<Line, Refusal>
 }
 
 // One call on a state, a run of records and the pool.
+#[tactic(auto, unfolding(crate::specs::Lent::lent_outcome, crate::specs::Lent::lent_line, crate::specs::Lent::lent_pool), using(crate::proofs::Promises::served_four, crate::proofs::Promises::served_other, refusals::proofs::Refusals::not_zero))]
 pub fn step_on(
     s: State,
     run: &mut [RequestRecord],
@@ -223,6 +226,7 @@ pub fn step_on(
 }
 
 // A start on a run of records and the pool.
+#[tactic(auto, unfolding(crate::specs::Lent::lent_start, crate::specs::Lent::lent_start_line, crate::specs::Lent::lent_start_pool), using(crate::proofs::Promises::begun_four, crate::proofs::Promises::begun_other, refusals::proofs::Refusals::not_zero))]
 pub fn start_on(
     set: Settings,
     run: &mut [RequestRecord],

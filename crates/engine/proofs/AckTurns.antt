@@ -1,5 +1,6 @@
 -- An ACK turn is begun exactly where an ACK is due (specs/AckTurns.antt).
 -- Assumes nothing.
+use Rattle.std.proofs.lemmas.Bool.{or_parts, true≢false}
 use Rattle.std.proofs.Common.{Option, Some, None, ℕ}
 use Prim.Native.Nat.{ℕ}
 use mathlib.Core.Path.{◌≡◌, refl, sym, ◌∙◌, ap}
@@ -47,11 +48,8 @@ use Rattle.reading.proofs.Laws.{destination_broadcast, others_acknowledged}
 use Rattle.engine.specs.Step.{wait_move, move_of, outcome_of, written_by, step_of, step_pool}
 use Rattle.engine.specs.Refusals.{RefusedUnchanged}
 use Rattle.engine.specs.AckTurns.{arrived_info, AckDue, NoAck, AckTurns, EveryAckTurnIsDue}
-use Rattle.engine.proofs.Table.{passed, neither}
+use Rattle.engine.proofs.Table.{passed}
 use Rattle.engine.proofs.Refusals.{refused_unchanged}
-
-differ : true ≡ false → ⊥
-differ e = let z : ◌≡◌ {A = ℕ} 1 0 = ap (λ (t : Bool). cond t 1 0) e in absurd (omega arith)
 
 -- ---- Where an ACK is due, and the call is accepted, it is turned to
 
@@ -140,7 +138,7 @@ module _ (s : State) (pool : List ℕ) where
   unfolding request_refusal
   free a q h =
       let t = passed (token_held s.wait q.token) 6 _ (omega arith) h in
-      (neither (leb s.set.count q.buffer) _
+      (or_parts (leb s.set.count q.buffer) _
       (passed (leb s.set.count q.buffer || buffer_held s q.buffer) 7 _ (omega arith) t.1).0).1
 
   -- a request whose buffer is not held has another buffer
@@ -150,7 +148,7 @@ module _ (s : State) (pool : List ℕ) where
     where
       go : (task : Task) → buffer_held s q.buffer ≡ false
           → sends s.set.ack_buffer (request_action q (previous_task_of s.set a).spacing task) ≡ false
-      go (Task.Tx n cca) h = ne_eqb s.set.ack_buffer q.buffer (λ e. differ (sym ((buffer_held_exactly s q.buffer).1 (inl (inl e))) ∙ h))
+      go (Task.Tx n cca) h = ne_eqb s.set.ack_buffer q.buffer (λ e. true≢false (sym ((buffer_held_exactly s q.buffer).1 (inl (inl e))) ∙ h))
       go Task.Rx h = refl
 
   request_quiet : (a : Asked) (q : Request) → Quiet (request_of s pool a q)
@@ -255,8 +253,8 @@ module _ (s : State) (pool : List ℕ) where
             number = number;
             addressing = f;
             is_addressing = addressing;
-            not_broadcast = λ d. differ (sym (destination_broadcast f.dst_address (inl d)) ∙ other);
-            not_absent = λ d. differ (sym (destination_broadcast f.dst_address (inr d)) ∙ other);
+            not_broadcast = λ d. true≢false (sym (destination_broadcast f.dst_address (inl d)) ∙ other);
+            not_absent = λ d. true≢false (sym (destination_broadcast f.dst_address (inr d)) ∙ other);
           }))
 
       not_wanted : (f : AddressingFields) → info.addressing_fields ≡ Some f → broadcast_destination f.dst_address ≡ false
@@ -270,7 +268,7 @@ module _ (s : State) (pool : List ℕ) where
       no_number : (addressing : Option AddressingFields) → info.addressing_fields ≡ addressing
           → number_to_acknowledge addressing (requested info.frame_control info.seq_nr) ≡ None
       unfolding number_to_acknowledge broadcast
-      no_number None e = absurd (differ (sym is_for_us ∙ missing_foreign e))
+      no_number None e = absurd (true≢false (sym is_for_us ∙ missing_foreign e))
       no_number (Some f) e = go (broadcast_destination f.dst_address) refl
         where
           go : (t : Bool) → broadcast_destination f.dst_address ≡ t
@@ -367,8 +365,8 @@ pub no_ack : (s : State) (pool : List ℕ) (m : Move) → QuietIn s.set.ack_buff
 unfolding written_by
 no_ack s pool m Q =
     record {
-      wait = λ ok q i e. differ (sym (ap turning e) ∙ Q.wait ok);
-      action = λ n cca start ifs rollback e. differ (sym (ap (sends s.set.ack_buffer) e ∙ eq-eqb s.set.ack_buffer _ refl) ∙ Q.action);
+      wait = λ ok q i e. true≢false (sym (ap turning e) ∙ Q.wait ok);
+      action = λ n cca start ifs rollback e. true≢false (sym (ap (sends s.set.ack_buffer) e ∙ eq-eqb s.set.ack_buffer _ refl) ∙ Q.action);
       pool_bytes = rw Q.number;
     }
 
@@ -381,7 +379,7 @@ refused_no_ack s pool c h =
       wait = λ ok. absurd (h ok);
       action =
           λ n cca start ifs rollback e.
-          differ (sym (ap (sends s.set.ack_buffer) (sym (ap (λ (r : Reply). r.action) kept.reply) ∙ e) ∙ eq-eqb s.set.ack_buffer _ refl));
+          true≢false (sym (ap (sends s.set.ack_buffer) (sym (ap (λ (r : Reply). r.action) kept.reply) ∙ e) ∙ eq-eqb s.set.ack_buffer _ refl));
       pool_bytes = kept.pool_bytes;
     }
 
@@ -417,7 +415,7 @@ pub taken_turns : (s : State) (pool : List ℕ) (a : Asked) (q : Request) → bu
     → AckTurns s pool (Call.Request q) (outcome_of (taken_of s.set pool a q)) (written_by s.set pool (taken_of s.set pool a q).number)
 taken_turns s pool a q f =
     record {
-      due = λ p arrived length k ok D. absurd (differ (sym (ap is_header D.header)));
+      due = λ p arrived length k ok D. absurd (true≢false (sym (ap is_header D.header)));
       only = λ H. no_ack s pool (taken_of s.set pool a q) (taken_quiet s pool a q f);
     }
 

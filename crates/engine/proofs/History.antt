@@ -1,5 +1,6 @@
 -- The whole list: after every list of calls on a state that an accepted start returned, the book is sound.
 -- Assumes nothing.
+use Rattle.std.proofs.lemmas.Bool.{or_parts}
 use Prim.Native.Nat.{ℕ, ◌+◌}
 use mathlib.Core.Path.{◌≡◌, refl, sym, ◌∙◌, ap}
 use mathlib.Core.Bool.{Bool, true, false, not, ◌||◌}
@@ -31,7 +32,7 @@ use Rattle.engine.proofs.Count.{one_le, still_once}
 use Rattle.engine.proofs.Standing.{own, raised}
 use Rattle.engine.proofs.Kept.{Kept, After, aged, state_at, aged_holds, entered_holds, reached}
 use Rattle.engine.proofs.Sound.{sound}
-use Rattle.engine.proofs.Table.{Legal, refuse, stay, swap, enters, passed, neither, step_legal}
+use Rattle.engine.proofs.Table.{Legal, refuse, stay, swap, enters, passed, step_legal}
 use Rattle.engine.proofs.Refusals.{in_order}
 
 -- ---- Every call, and every list of them
@@ -69,7 +70,7 @@ free s pool c z q e =
     let five = passed (not (fits (Call.Request q) s.wait)) 5 _ (omega arith) four.1 in
     let six = passed (token_held s.wait q.token) 6 _ (omega arith) five.1 in
     let seven = passed (leb s.set.count q.buffer || buffer_held s q.buffer) 7 _ (omega arith) six.1 in
-    ((neither (leb s.set.count q.buffer) _ seven.0).1, six.0)
+    ((or_parts (leb s.set.count q.buffer) _ seven.0).1, six.0)
 
 pub step_keeps : (s : State) (b : Book) (pool : List ℕ) (c : Call) → Kept s b → After b pool c (move_of s pool c)
 unfolding step_of
@@ -87,7 +88,7 @@ own_differ set n h =
     let p = passed (pool_unfit set n) 2 _ (omega arith) h in
     let q = passed (rooms_unfit set) 3 _ (omega arith) p.1 in
     let o = passed (own_buffers_unfit set) 4 _ (omega arith) q.1 in
-    (neither (eqb set.ack_buffer set.spare_buffer) _ o.0).0
+    (or_parts (eqb set.ack_buffer set.spare_buffer) _ o.0).0
 
 pub started : (set : Settings) → eqb set.ack_buffer set.spare_buffer ≡ false → Kept (state_at set (Wait.Asking Asked.Idle)) (start_book set)
 started set differ =

@@ -250,7 +250,7 @@ held_has s x =
 pub count_own : (set : Settings) (l : List ℕ) (x : ℕ) → count x (own set ++ l) ≡ count x (own set) + count x l
 count_own set l x = omega arith
 
-count_append : (x : ℕ) (l m : List ℕ) → count x (l ++ m) ≡ count x l + count x m
+pub count_append : (x : ℕ) (l m : List ℕ) → count x (l ++ m) ≡ count x l + count x m
 count_append x [] m = omega arith
 count_append x (y ∷ l) m = omega (arith, count_append x l m)
 

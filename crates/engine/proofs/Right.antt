@@ -1,5 +1,6 @@
 -- Each kind of answer is right, whatever the book says of the request, as long as it agrees with the wait.
 -- Assumes nothing.
+use Rattle.std.proofs.lemmas.Bool.{true≢false}
 use Rattle.std.proofs.Common.{Option, Some, None, ℕ}
 use Prim.Native.Nat.{ℕ}
 use mathlib.Core.Path.{◌≡◌, refl, sym, ◌∙◌, ap}
@@ -73,20 +74,13 @@ the_result other TaskResult.Off = other
 the_result other (TaskResult.Sent t) = other
 the_result other (TaskResult.Rx r) = r
 
-abbrev flag : Bool → ℕ
-flag true = 1
-flag false = 0
-
-true_false : {b : Bool} → b ≡ true → b ≡ false → ⊥
-true_false p q = let z : ◌≡◌ {A = ℕ} 1 0 = ap flag (sym p ∙ q) in absurd (omega arith)
-
 noted : (n : Option ℕ) → is_number n ≡ true → (k : ℕ) × (n ≡ Some k)
 noted (Some k) h = (k, refl)
-noted None h = absurd (true_false {b = false} h refl)
+noted None h = absurd (true≢false (sym h))
 
 -- no number is noted for a request whose frame wants no ACK
 not_noted : (n : Option ℕ) (k : ℕ) → is_number n ≡ false → n ≡ Some k → ⊥
-not_noted n k h p = true_false (ap is_number p) h
+not_noted n k h p = true≢false (sym (ap is_number p) ∙ h)
 
 -- one call tells one result
 tells_one : (c : Call) (r r' : TaskResult) → Tells c r → Tells c r' → r ≡ r'
@@ -203,7 +197,7 @@ module _ (set : Settings) (pool : List ℕ) (c : Call) (o : Standing) (e : Entry
           );
           nack_only = λ u q. let z : ◌≡◌ {A = ℕ} 0 1 = ap response_case q in absurd (omega arith);
           error_only = λ cause q. let z : ◌≡◌ {A = ℕ} 0 2 = ap response_case q in absurd (omega arith);
-          sent_only = λ h u q. let z : ◌≡◌ {A = ℕ} 1 0 = ap flag (ap is_number (sym mine ∙ h)) in absurd (omega arith);
+          sent_only = λ h u q. absurd (true≢false (ap is_number (sym mine ∙ h)));
         }
 
     pub unacknowledged_right : is_ack set pool b k r ≡ false → AnsweredRight set (answered (Response.Nack t))
@@ -211,7 +205,7 @@ module _ (set : Settings) (pool : List ℕ) (c : Call) (o : Standing) (e : Entry
         record {
           sent_exactly = λ k' h u. (
             λ q. let z : ◌≡◌ {A = ℕ} 1 0 = ap response_case q in absurd (omega arith),
-            λ H. absurd (true_false (the_same true (Response.Nack t) k' u (number_is k' h) H).1 a),
+            λ H. absurd (true≢false (sym (the_same true (Response.Nack t) k' u (number_is k' h) H).1 ∙ a)),
           );
           nack_only = λ u q. (k, mine, inr (heard false (Response.Nack t) k u refl (ap response_time q) a));
           error_only = λ cause q. let z : ◌≡◌ {A = ℕ} 1 2 = ap response_case q in absurd (omega arith);

@@ -1,5 +1,6 @@
 -- The claims follow from the invariant.
 -- Assumes nothing.
+use Rattle.std.proofs.lemmas.Bool.{or_cases, or_right}
 use Rattle.std.proofs.Common.{Option, Some, None, ℕ}
 use Prim.Native.Nat.{ℕ, ◌≤◌}
 use mathlib.Core.Path.{◌≡◌, refl, sym, ◌∙◌, ap}
@@ -46,14 +47,6 @@ seven_exactly false true w n e = (λ h. absurd (omega arith), λ h. let z : ◌�
 seven_exactly false false true n e = (λ h. absurd (omega arith), λ h. let z : ◌≡◌ {A = ℕ} 0 1 = cc in absurd (omega arith))
 seven_exactly false false false n e = (λ h. absurd (omega arith), λ h. let z : ◌≡◌ {A = ℕ} 0 1 = cc in absurd (omega arith))
 
-either_one : (x y : Bool) → (x || y) ≡ true → (x ≡ true) ⊎ (y ≡ true)
-either_one true y h = inl refl
-either_one false y h = inr h
-
-or_right : (x y : Bool) → y ≡ true → (x || y) ≡ true
-or_right true y h = refl
-or_right false y h = h
-
 -- of a Request that fits its wait: 6, then 7, by the book
 module _ (s : State) (b : Book) (K : Kept s b) (pool : List ℕ) (q : Request) (F : RequestFits (record { state = s; book = b }) pool q) where
   count_is : s.set.count ≡ b.set.count
@@ -94,7 +87,7 @@ module _ (s : State) (b : Book) (K : Kept s b) (pool : List ℕ) (q : Request) (
       → (step_of s pool (Call.Request q)).refusal ≡ 7 ↔ ((b.set.count ≤ q.buffer) ⊎ (has_number q.buffer b.held ≡ true))
   seven_is none =
       let e = seven_exactly unfit (tx_length_unfit s.set q.task) (not_allowed_in s.wait q) _ (rw none at refused_by_lem) in (
-        λ h. two (either_one (leb b.set.count q.buffer) (has_number q.buffer b.held) (e.0 h)),
+        λ h. two (or_cases (leb b.set.count q.buffer) (has_number q.buffer b.held) (e.0 h)),
         λ g. e.1 (back g),
       )
     where

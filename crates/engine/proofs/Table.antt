@@ -1,6 +1,7 @@
 -- What a call can come to: one table of waits and calls, from which each property of all calls is proved.
 -- Assumes nothing.
 use Rattle.std.proofs.Common.{Option, Some, None, ℕ}
+use Rattle.std.proofs.lemmas.Bool.{or_parts}
 use Prim.Native.Nat.{ℕ, suc, ◌+◌, ◌<◌}
 use mathlib.Core.Path.{◌≡◌, refl, ◌∙◌, ap}
 use mathlib.Core.Bool.{Bool, true, false, cond, ◌||◌}
@@ -175,10 +176,6 @@ pub passed : (t : Bool) (k r : ℕ) → 0 < k → cond t k r ≡ 0 → (t ≡ fa
 passed true k r p h = absurd (omega arith)
 passed false k r p h = (refl, h)
 
-pub neither : (x y : Bool) → (x || y) ≡ false → (x ≡ false) × (y ≡ false)
-neither true y h = absurd (let z : ◌≡◌ {A = ℕ} 0 1 = cc in omega arith)
-neither false y h = (refl, h)
-
 -- ---- Rollback does not fit where a request's task is entered
 tx_stays : (l : Left) (q : TxTask) (k : Option ℕ) → fits Call.Rollback (Wait.Entering (Transition.Request l (Next.Tx q k))) ≡ false
 unfolding fits rollback_fits goes_off
@@ -221,7 +218,7 @@ module _ (set : Settings) (pool : List ℕ) where
     unfolding request_refusal
     free s a h =
         let t = passed (token_held s.wait q.token) 6 _ (omega arith) h in (
-          (neither (leb s.set.count q.buffer) _
+          (or_parts (leb s.set.count q.buffer) _
               (passed (leb s.set.count q.buffer || buffer_held s q.buffer) 7 _ (omega arith) t.1).0).1,
           t.0,
         )

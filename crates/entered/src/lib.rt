@@ -59,7 +59,7 @@ fn request_entered(
     ensures { told s result ≡ request_entered s pool.now l n x }
 {
     let owed = results::leave_task(s.set, pool, l, x)?;
-    Ok(arrive(s.set, n, tasks::answers_of(owed)))
+    Ok(arrive(s.set, n, owed.into()))
 }
 
 // After the re-arm the request has the buffer that was the spare one, and its own is the spare one.
@@ -84,7 +84,7 @@ fn ack_turn_entered(s: State, q: RxTask, i: Ifs, x: TaskResult) -> Result<Accept
     ensures { told s result ≡ ack_turn_entered s q i x }
 {
     let owed = results::leave_receiving(s.set, q, x)?;
-    Ok(moves::ask(s.set, Asked::SendingAck(i), tasks::answers_of(owed)))
+    Ok(moves::ask(s.set, Asked::SendingAck(i), owed.into()))
 }
 
 #[tactic(auto, unfolding(crate::specs::Entered::ack_wait_entered, crate::specs::Entered::ack_wait_started))]

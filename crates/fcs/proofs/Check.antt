@@ -1,7 +1,7 @@
 -- The check: its answer, when it is refused and when it is yes, and a frame that ends with its own checksum.
 -- Assumes nothing.
 use Prim.Native.Nat.{ℕ, ◌+◌, ◌*◌, ◌-◌, ◌/◌, ◌%◌, ◌^◌, ◌≤◌, ◌<◌}
-use mathlib.Core.Path.{◌≡◌, refl, sym, ◌∙◌, ap, ap₂, subst⁻¹}
+use mathlib.Core.Path.{◌≡◌, refl, sym, ◌∙◌, ap, ap₂}
 use mathlib.Core.Logic.{◌⊎◌, inl, inr, ⊎_elim}
 use mathlib.Core.Bool.{Bool, true, false, cond, ◌&&◌, xor}
 use mathlib.Core.List.{List, [], ◌∷◌, ◌++◌}
@@ -15,7 +15,6 @@ use Rattle.std.proofs.Common.{Fits}
 use Rattle.std.proofs.lemmas.Bool.{cases_lt}
 use Rattle.std.proofs.lemmas.Bool.Decides.{nat_tests}
 use Rattle.refusals.specs.declared.Refusal.{Refusal}
-use Rattle.util.specs.Bytes.{bytes_of}
 use Rattle.fcs.specs.Fcs.{fcs_of, fcs_from, fcs_bytes}
 use Rattle.fcs.specs.Check.{unfit_length, last_two, rest_of, same_two, ends_in_own_fcs, check_of, check_number, FcsChecked}
 use Rattle.fcs.specs.Laws.{MarkedRow, RefusedExactly, YesExactly, OwnChecksumIsRight}
@@ -61,17 +60,15 @@ answered_refused frame h = checked frame _ (sym (refused frame h))
 
 -- the answer by the two numbers that the code compares: the checksum of the rest, and that which the last two bytes are
 pub answered : (frame : List ℕ) → 3 ≤ length frame → length frame ≤ 127 → ((i : ℕ) → Fits w8 (get_or frame i 0))
-    → (own last : ℕ) → own ≡ fcs_of (rest_of frame) → last ≡ from_le_bytes w16 (last_two frame) → FcsChecked frame (Ok (eqb own last))
+    → FcsChecked frame (Ok (eqb (fcs_of (rest_of frame)) (from_le_bytes w16 (last_two frame))))
 unfolding fcs_bytes fcs_of
-answered frame h k bytes own last o l =
+answered frame h k bytes =
     let n = length frame - 2 in
-    let fits : own < 2 ^ 16 = subst⁻¹ (λ (m : ℕ). m < 2 ^ 16) o (from_fits 0 (rest_of frame)) in
+    let fits : fcs_of (rest_of frame) < 2 ^ 16 = from_fits 0 (rest_of frame) in
     let low : get_or (last_two frame) 0 0 < 256 = rw get_or-drop (bytes (n + 0)).fits in
     let high : get_or (last_two frame) 1 0 < 256 = rw get_or-drop (bytes (n + 1)).fits in
     checked frame _
-    (ap (λ (m : ℕ). Ok (eqb own m)) l
-    ∙ ap Ok (same_number (get_or (last_two frame) 0 0) (get_or (last_two frame) 1 0) own low high fits)
-    ∙ ap (λ (m : ℕ). Ok (same_two (last_two frame) (bytes_of 2 m))) o
+    (ap Ok (same_number (get_or (last_two frame) 0 0) (get_or (last_two frame) 1 0) (fcs_of (rest_of frame)) low high fits)
     ∙ sym (taken frame h k))
 
 -- ---- When it is refused, and when it is yes

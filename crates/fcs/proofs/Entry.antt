@@ -36,9 +36,14 @@ once_before : (x : Bool) (xs after : List Bool) → 16 ≤ length xs → divide_
 once_before true xs after h = minus_before xs after (coefficients_below 16) h
 once_before false xs after h = refl
 
+-- what the division of a register leaves, in so many steps
+unfoldable pub left_after : ℕ → ℕ → ℕ
+left_after steps register = number_of (divide steps (bits_of (steps + 16) register))
+
 -- one turn of the loop, after which k steps are left
 pub turn : (left k register next : ℕ) → left ≡ k + 1 → register < 2 ^ 16 → next < 2 ^ 16 → bits_of 16 next ≡ divide_once (bits_of 17 register)
-    → divide k (bits_of (k + 16) next) ≡ divide left (bits_of (left + 16) register)
+    → left_after k next ≡ left_after left register
+unfolding left_after
 turn left k register next e fits fits' step =
     let one_more : left ≡ suc k = omega arith in
     let above : left + 16 ≡ 17 + k = omega arith in
@@ -50,18 +55,19 @@ turn left k register next e fits fits' step =
     ∙ ap (λ (l : List Bool). l ++ replicate k false) (sym step)
     ∙ sym (padded 16 k next fits')
     ∙ ap (λ (n : ℕ). bits_of n next) (sym below) in
-    ap (divide k) (sym once) ∙ ap (λ (n : ℕ). divide n (bits_of (left + 16) register)) (sym one_more)
+    ap (λ (l : List Bool). number_of (divide k l)) (sym once) ∙ ap (λ (n : ℕ). number_of (divide n (bits_of (left + 16) register))) (sym one_more)
 
 -- the division of one byte, as a register begins it
-pub entry_start : (byte : ℕ) → byte < 2 ^ 8 → number_of (divide 8 (bits_of (8 + 16) byte)) ≡ fcs_of (byte ∷ [])
-unfolding fcs_of fcs_from
+pub entry_start : (byte : ℕ) → byte < 2 ^ 8 → fcs_of (byte ∷ []) ≡ left_after 8 byte
+unfolding fcs_of fcs_from left_after
 entry_start byte h =
     ap
     (λ (l : List Bool). number_of (divide 8 l))
-    (padded 8 16 byte h ∙ sym (minus_zeros 16 (bits_of 8 byte ++ zeros)))
+    (minus_zeros 16 (bits_of 8 byte ++ zeros) ∙ sym (padded 8 16 byte h))
 
 -- no step is left
-pub ended : (left register : ℕ) → left ≡ 0 → register < 2 ^ 16 → number_of (divide left (bits_of (left + 16) register)) ≡ register
+pub ended : (left register : ℕ) → left ≡ 0 → register < 2 ^ 16 → left_after left register ≡ register
+unfolding left_after
 ended left register e fits = ap (λ (n : ℕ). number_of (divide n (bits_of (n + 16) register))) e ∙ number_bits 16 register fits
 
 -- one step, where the lowest bit is 1

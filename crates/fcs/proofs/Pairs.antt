@@ -7,10 +7,7 @@ use mathlib.Core.List.{List, [], ◌∷◌}
 use native.Mathlib.Omega.{arith}
 use lib.Bits.{bit_xor, xor_comm, xor_assoc, xor_lt, xor_shr, xor_mod}
 use lib.ListN.{length, get_or, take, drop, length-drop, take-append-drop}
-use Rattle.std.specs.Prelude.{Some, None}
-use Rattle.std.specs.Int.{w8}
-use Rattle.std.specs.List.{fold, slice_get}
-use Rattle.std.proofs.Common.{Fits}
+use Rattle.std.specs.List.{fold}
 use Rattle.std.proofs.lemmas.List.{take_all}
 use Rattle.std.specs.Simd.{first_chunks}
 use Rattle.fcs.specs.Fcs.{fcs_from, fcs_of}
@@ -18,18 +15,15 @@ use Rattle.fcs.specs.Table.{fcs_table, table_step}
 use Rattle.fcs.proofs.ByTable.{every_entry, from_cons, from_append, from_fits, from_none, table_byte}
 
 -- the checksum of one byte, or of none
-pub one_byte : (odd : List ℕ) (byte : ℕ) → length odd < 2 → ((i : ℕ) → Fits w8 (get_or odd i 0)) → Some byte ≡ slice_get odd 0
-    → get_or fcs_table byte 0 ≡ fcs_of odd
-one_byte [] byte h bytes e = absurd cc
-one_byte (b ∷ c ∷ odd) byte h bytes e = absurd (omega arith)
-one_byte (b ∷ []) byte h bytes e =
-    let same : byte ≡ b = cc in
-    ap (λ (n : ℕ). get_or fcs_table n 0) same ∙ every_entry.1 b (bytes 0).fits
+pub one_byte : (odd : List ℕ) → 0 < length odd → length odd < 2 → get_or odd 0 0 < 256 → fcs_of odd ≡ get_or fcs_table (get_or odd 0 0) 0
+one_byte [] some h f = absurd (omega arith)
+one_byte (b ∷ c ∷ odd) some h f = absurd (omega arith)
+one_byte (b ∷ []) some h f = sym (every_entry.1 b f)
 
-pub no_byte : (odd : List ℕ) → None ≡ slice_get odd 0 → 0 ≡ fcs_of odd
+pub no_byte : (odd : List ℕ) → length odd ≡ 0 → fcs_of odd ≡ 0
 unfolding fcs_of fcs_from xor
 no_byte [] e = refl
-no_byte (b ∷ odd) e = absurd cc
+no_byte (b ∷ odd) e = absurd (omega arith)
 
 -- steps of two bytes each, over bytes that are even in number
 over_pairs : (k start : ℕ) (bytes : List ℕ) → start < 2 ^ 16 → length bytes ≡ k * 2 → fold fcs_from start (first_chunks 2 k bytes) ≡ fcs_from start bytes
@@ -76,17 +70,21 @@ two_bytes start b c f g h entry e =
     ∙ sym (from_cons start b (c ∷ []))
 
 -- the same of two bytes as a pair, with the two bytes of the register and of the entry
-pub pair_by_table : (start : ℕ) (pair : List ℕ) → start < 2 ^ 16 → length pair ≡ 2 → ((i : ℕ) → get_or pair i 0 < 256)
-    → (entry : ℕ) → entry ≡ get_or fcs_table (bit_xor (start % 256) (get_or pair 0 0)) 0
-    → bit_xor (entry / 256 % 256) (get_or fcs_table (bit_xor (bit_xor (entry % 256) (start / 256 % 256)) (get_or pair 1 0)) 0) ≡ fcs_from start pair
+pub pair_by_table : (start : ℕ) (pair : List ℕ) → start < 2 ^ 16 → length pair ≡ 2 → get_or pair 0 0 < 256 → get_or pair 1 0 < 256
+    → fcs_from start pair
+    ≡ bit_xor
+    (get_or fcs_table (bit_xor (start % 256) (get_or pair 0 0)) 0 / 256 % 256)
+    (get_or fcs_table
+    (bit_xor (bit_xor (get_or fcs_table (bit_xor (start % 256) (get_or pair 0 0)) 0 % 256) (start / 256 % 256)) (get_or pair 1 0)) 0)
 unfolding fcs_of
-pair_by_table start [] f h bytes entry e = absurd (omega arith)
-pair_by_table start (b ∷ []) f h bytes entry e = absurd (omega arith)
-pair_by_table start (b ∷ c ∷ d ∷ pair) f h bytes entry e = absurd (omega arith)
-pair_by_table start (b ∷ c ∷ []) f h bytes entry e =
+pair_by_table start [] f h g k = absurd (omega arith)
+pair_by_table start (b ∷ []) f h g k = absurd (omega arith)
+pair_by_table start (b ∷ c ∷ d ∷ pair) f h g k = absurd (omega arith)
+pair_by_table start (b ∷ c ∷ []) f h g k =
     let place = bit_xor (start % 256) b in
-    let is_entry : entry ≡ fcs_from 0 (place ∷ []) = e ∙ every_entry.1 place (xor_lt 8 (start % 256) b (omega arith) (bytes 0)) in
+    let entry = get_or fcs_table place 0 in
+    let is_entry : entry ≡ fcs_from 0 (place ∷ []) = every_entry.1 place (xor_lt 8 (start % 256) b (omega arith) g) in
     let fits : entry < 2 ^ 16 = rw is_entry (from_fits 0 (place ∷ [])) in
     let high : entry / 256 % 256 ≡ entry / 256 = omega arith in
     let whole : start / 256 % 256 ≡ start / 256 = omega arith in
-    rw (high, whole, xor_assoc (entry % 256) (start / 256) c) (two_bytes start b c f (bytes 0) (bytes 1) entry e)
+    sym (rw (high, whole, xor_assoc (entry % 256) (start / 256) c) (two_bytes start b c f g k entry refl))

@@ -7,11 +7,12 @@ use mathlib.Core.Bool.{Bool, ◌&&◌}
 use mathlib.Core.List.{List, [], ◌∷◌}
 use native.Mathlib.Nat.{add-zero}
 use native.Mathlib.Omega.{arith}
-use lib.Bits.{bit_xor, xor_comm, xor_assoc, xor_lt, xor_shr, xor_mod, xor_block, xor_shifted}
+use lib.Bits.{bit_xor, xor_comm, xor_assoc, xor_lt, xor_shr, xor_mod, xor_zero_r, xor_block, xor_shifted}
 use lib.Dec.{T, eqb, eqb→eq}
 use lib.ListN.{length, get_or}
 use lib.Pow.{pow_pos}
-use Rattle.std.specs.Int.{w16, from_le_bytes}
+use Rattle.std.specs.Int.{w8, w16, from_le_bytes}
+use Rattle.std.proofs.Common.{Fits}
 use Rattle.fcs.specs.Fcs.{fcs_from}
 use Rattle.fcs.specs.Table.{fcs_table}
 use Rattle.fcs.proofs.Bits.{xor_exchange}
@@ -47,20 +48,20 @@ after_additive f g F G a b = ap f (G a b) ∙ F (g a) (g b)
 
 -- ---- The code's shifts
 
-unfoldable pub four : ℕ → ℕ
+abbrev pub four : ℕ → ℕ
 four w = bit_xor w (up 4 w)
 
-unfoldable pub quotient : ℕ → ℕ
+abbrev pub quotient : ℕ → ℕ
 quotient w = bit_xor (bit_xor (four w) (up 8 (four w))) (up 11 w)
 
-unfoldable pub left : ℕ → ℕ
+abbrev pub left : ℕ → ℕ
 left q = bit_xor (bit_xor q (q / 2 ^ 5)) (q / 2 ^ 12)
 
 unfoldable pub shifts : ℕ → ℕ
 shifts w = left (quotient w)
 
 shifts_additive : Additive shifts
-unfolding shifts left quotient four
+unfolding shifts
 shifts_additive =
     let same : Additive (λ w. w) = λ a b. refl in
     let four-additive = sum_additive (λ w. w) (up 4) same (up_additive 4) in
@@ -81,7 +82,7 @@ right : ℕ → ℕ → Bool
 right place entry = eqb (shifts (place * 2 ^ 8)) entry && eqb (shifts place) (bit_xor (entry / 256) (entry_at (entry % 256)))
 
 every_byte : (place : ℕ) → place < 256 → T (right place (entry_at place))
-unfolding fcs_table right shifts left quotient four
+unfolding fcs_table right shifts
 every_byte place h = at right fcs_table tt place h
 
 high_byte : (place : ℕ) → place < 256 → shifts (place * 2 ^ 8) ≡ entry_at place
@@ -129,17 +130,26 @@ of_two start b c word f g h low high =
     ∙ as_table (bit_xor (start % 256) b) (bit_xor (start / 256) c) first second
     ∙ two_bytes start b c f g h (entry_at (bit_xor (start % 256) b)) refl
 
--- two bytes that come after others go into the register
-pub word_step : (start : ℕ) (pair : List ℕ) → start < 2 ^ 16 → length pair ≡ 2 → ((i : ℕ) → get_or pair i 0 < 256)
-    → (word : ℕ) → word ≡ from_le_bytes w16 pair → shifts (bit_xor start word) ≡ fcs_from start pair
-word_step start [] f h bytes word e = absurd (omega arith)
-word_step start (b ∷ []) f h bytes word e = absurd (omega arith)
-word_step start (b ∷ c ∷ d ∷ pair) f h bytes word e = absurd (omega arith)
-word_step start (b ∷ c ∷ []) f h bytes word e =
-    let first : b < 256 = bytes 0 in
-    let second : c < 256 = bytes 1 in
+-- two zeros that come after others: sixteen steps of the register as it is
+pub two_zeros : (word : ℕ) → word < 2 ^ 16 → fcs_from word (0 ∷ 0 ∷ []) ≡ left (quotient word)
+unfolding shifts
+two_zeros word f = sym (of_two word 0 0 word f (omega arith) (omega arith) (sym (xor_zero_r (word % 256))) (sym (xor_zero_r (word / 256))))
+
+-- two other bytes go into the register
+pub word_step : (start : ℕ) (pair : List ℕ) → start < 2 ^ 16 → length pair ≡ 2 → ((i : ℕ) → Fits w8 (get_or pair i 0))
+    → fcs_from start pair ≡ fcs_from (bit_xor start (from_le_bytes w16 pair)) (0 ∷ 0 ∷ [])
+unfolding shifts
+word_step start [] f h bytes = absurd (omega arith)
+word_step start (b ∷ []) f h bytes = absurd (omega arith)
+word_step start (b ∷ c ∷ d ∷ pair) f h bytes = absurd (omega arith)
+word_step start (b ∷ c ∷ []) f h bytes =
+    let first : b < 256 = (bytes 0).fits in
+    let second : c < 256 = (bytes 1).fits in
+    let word = from_le_bytes w16 (b ∷ c ∷ []) in
     let low : word % 256 ≡ b = omega arith in
     let high : word / 256 ≡ c = omega arith in
-    of_two start b c (bit_xor start word) f first second
+    sym
+    (of_two start b c (bit_xor start word) f first second
     (xor_mod start word 8 ∙ ap (bit_xor (start % 256)) low)
-    (xor_shr start word 8 ∙ ap (bit_xor (start / 256)) high)
+    (xor_shr start word 8 ∙ ap (bit_xor (start / 256)) high))
+    ∙ sym (two_zeros (bit_xor start word) (xor_lt 16 start word f (omega arith)))

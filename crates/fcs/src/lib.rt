@@ -24,7 +24,7 @@ pub fn fcs(bytes: &[u8]) -> u16
     let mut register = before_pairs(odd);
     if bytes.len() < BY_TABLE_FROM {
         for pair in pairs {
-            register = two_by_shifts(register, *pair);
+            register = two_by_shifts(register, pair);
         }
     } else {
         for pair in pairs {
@@ -35,6 +35,7 @@ pub fn fcs(bytes: &[u8]) -> u16
 }
 
 // The checksum of one byte or of none.
+#[tactic(auto, using(crate::proofs::Pairs::one_byte, crate::proofs::Pairs::no_byte))]
 fn before_pairs(odd: &[u8]) -> u16
     requires { length odd.now < 2 }
     ensures { result ≡ fcs_of odd.now }
@@ -46,6 +47,8 @@ fn before_pairs(odd: &[u8]) -> u16
 }
 
 // Two bytes more by the table: the first goes with the register's low byte, the second with its high byte and the entry of the first.
+// The pair comes by value: by reference the loop has two instructions more.
+#[tactic(auto, using(crate::proofs::Pairs::pair_by_table))]
 fn two_by_table(register: u16, pair: [u8; 2]) -> u16
     ensures { result ≡ fcs_from register pair }
 {
@@ -55,20 +58,28 @@ fn two_by_table(register: u16, pair: [u8; 2]) -> u16
     u16::from(entry_high) ^ fcs_table()[usize::from(entry_low ^ high ^ second)]
 }
 
-// Two bytes more without the table, sixteen steps of the division at once. A bit of the quotient is the word's, changed by the
+// Two bytes more without the table. The pair comes by reference, of which the search knows that it has two bytes.
+#[tactic(auto, using(crate::proofs::Shifts::word_step))]
+fn two_by_shifts(register: u16, pair: &[u8; 2]) -> u16
+    ensures { result ≡ fcs_from register pair.now }
+{
+    sixteen_steps(register ^ u16::from_le_bytes(*pair))
+}
+
+// Sixteen steps of the division at once, with no bits after those of the word. A bit of the quotient is the word's, changed by the
 // quotient's bits 4 and 11 places before it, since the terms 12 and 5 are so far below the term 16; written out, by the word's bits 4,
 // 8, 12 and 11 places before it. What is left is what the quotient has changed beyond the word by the terms 0, 5 and 12.
-fn two_by_shifts(register: u16, pair: [u8; 2]) -> u16
-    ensures { result ≡ fcs_from register pair }
+#[tactic(auto, using(crate::proofs::Shifts::two_zeros))]
+fn sixteen_steps(word: u16) -> u16
+    ensures { result ≡ fcs_from word (0 ∷ 0 ∷ []) }
 {
-    let word = register ^ u16::from_le_bytes(pair);
     let four = word ^ (word << 4);
     let quotient = four ^ (four << 8) ^ (word << 11);
     quotient ^ (quotient >> 5) ^ (quotient >> 12)
 }
 
 // The table's entry for a byte, by the bit rule: the table is not looked at.
-#[tactic(auto, using(crate::proofs::Entry::turn, crate::proofs::Entry::ended))]
+#[tactic(auto, using(crate::proofs::Entry::entry_start, crate::proofs::Entry::turn, crate::proofs::Entry::ended))]
 pub fn entry_by_bits(byte: u8) -> u16
     ensures { result ≡ fcs_of (byte ∷ []) }
 {
@@ -93,7 +104,7 @@ fn divided_once(register: u16) -> u16
 }
 
 // Whether the last two bytes of a frame are the checksum of the rest.
-#[tactic(auto, using(crate::proofs::Check::answered_refused))]
+#[tactic(auto, using(crate::proofs::Check::answered, crate::proofs::Check::answered_refused))]
 pub fn check_fcs(frame: &[u8]) -> Result<bool, Refusal>
     ensures { FcsChecked frame.now result }
 {
@@ -105,7 +116,8 @@ pub fn check_fcs(frame: &[u8]) -> Result<bool, Refusal>
     }
 }
 
-// The number of an answer in the exported form.
+// The number of an answer in the exported form. It is no enum with From: the cases are those of a Result<bool, Refusal>, and a refusal's
+// own number comes by From already; so it stays a match.
 pub fn check_number(answer: Result<bool, Refusal>) -> u8
     ensures { result ≡ check_number answer }
 {

@@ -25,6 +25,7 @@ const FCS_TABLE: [u16; 256] = [
 ];
 
 // The table, of which `EveryEntry` speaks.
+#[tactic(auto, unfolding(crate::specs::Table::fcs_table))]
 pub fn fcs_table() -> &'static [u16; 256]
     ensures { result.now ≡ fcs_table }
 {

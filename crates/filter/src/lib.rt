@@ -27,7 +27,7 @@ fn is_address_for_us(hardware: u64, implicit: bool, address: Address) -> bool
 }
 
 // Whether a frame with these facts is well formed and for the station with this hardware address (its eight bytes, highest
-// first, as one number), PAN and implicit broadcast setting. (Not a struct of the three: it would be made for this call alone.)
+// first, as one number), PAN and implicit broadcast setting. (The three one by one are the Rust's parameters.)
 #[tactic(auto, unfolding(crate::specs::Filter::for_us, crate::specs::Filter::control_passes, crate::specs::Filter::addressing_for_us))]
 pub fn is_frame_valid_and_for_us(
     hardware: u64,

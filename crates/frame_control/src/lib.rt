@@ -13,7 +13,7 @@ pub enum AddressingMode {
     Extended,
 }
 
-// The named fields of the two bytes.
+// The named fields of the two bytes. Type and version are numbers, as all that is asked of them is a bound.
 #[derive(Clone, Copy, Debug, PartialEq, Eq)]
 pub struct FrameControl {
     pub frame_type: u8,

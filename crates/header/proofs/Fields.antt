@@ -5,7 +5,7 @@ use Rattle.std.specs.Option.{option_or}
 use Rattle.std.proofs.Common.{ap, Option, Some, None, ℕ}
 use Prim.Native.Nat.{ℕ, ◌+◌, ◌<◌, ◌≤◌}
 use mathlib.Core.Bool.{Bool, true, false, cond, ◌||◌}
-use mathlib.Core.Path.{◌≡◌, refl, sym, ◌∙◌}
+use mathlib.Core.Path.{◌≡◌, refl, sym}
 use mathlib.Core.List.{List}
 use native.Mathlib.Omega.{arith}
 use lib.Dec.{eqb, leb}
@@ -19,8 +19,7 @@ use Rattle.addressing.specs.declared.AddressingFieldsLengths.{AddressingFieldsLe
 use Rattle.addressing.specs.Addressing.{address_length, present, pan_id_length, pan_ids_of, lengths_of, Bounded}
 use Rattle.addressing.proofs.Laws.{lengths_bounded, source_pan_needs_source}
 use Rattle.header.specs.declared.Address.{Address}
-use Rattle.header.specs.declared.PreliminaryFrameInfo.{PreliminaryFrameInfo}
-use Rattle.header.specs.Header.{addressing_begin, dst_address_begin, src_pan_id_begin, src_address_begin, header_length, frame_control_fact, seq_nr_fact, pan_id_of, address_of, addressing_fact, pan_id_bytes, src_pan_id_fact, address_fact, src_address_fact, addressing_end_fact, control_alone, numbered_info, after_control, info_of}
+use Rattle.header.specs.Header.{addressing_begin, dst_address_begin, src_pan_id_begin, src_address_begin, header_length, frame_control_fact, seq_nr_fact, pan_id_of, address_of, addressing_fact, pan_id_bytes, src_pan_id_fact, address_fact, src_address_fact, addressing_end_fact, after_control, info_of}
 use Rattle.header.specs.Steps.{number_step, pan_id_found, unread_address, inherited_pan_id, before_gap}
 
 -- a test that chose one of two different values
@@ -170,8 +169,9 @@ module _ (frame : List ℕ) where
   own_or_inherited false dst mode begin place s h i e f =
       rw (pan_is place 0 f) (inherited false dst mode begin place h e (λ z. let y : ◌≡◌ {A = ℕ} 0 1 = cc in omega arith))
 
--- The reader's steps in their order, each on the bytes from where the fields begin: what the facts so far are where the reading ends.
-module _ (frame : List ℕ) (fc : FrameControl) (n : Option ℕ) where
+-- The reader's steps in their order, each on the bytes from where the fields begin: the facts of the address fields where the reading
+-- ends.
+module _ (frame : List ℕ) (fc : FrameControl) where
   abbrev mode : AddressingMode
   mode = fc.src_addressing_mode
 
@@ -179,15 +179,24 @@ module _ (frame : List ℕ) (fc : FrameControl) (n : Option ℕ) where
   begin = addressing_begin fc
 
   -- where an address byte is missing, addressing and its end are missing too
-  gap : {pan : Option ℕ} {address : Option Address} → length frame < header_length fc → pan ≡ src_pan_id_fact frame fc → address ≡ src_address_fact frame fc → before_gap fc n pan address ≡ numbered_info frame fc n
+  short : length frame < header_length fc → (addressing_fact frame fc ≡ None) × (addressing_end_fact frame fc ≡ None)
   unfolding addressing_fact addressing_end_fact
-  gap k e f = rw (e, f, lt-leb (header_length fc) (length frame) k)
+  short k = (rw (lt-leb (header_length fc) (length frame) k), rw (lt-leb (header_length fc) (length frame) k))
 
-  pub early_gap : length frame < begin + 2 → length frame < src_address_begin fc → before_gap fc n None (unread_address mode) ≡ numbered_info frame fc n
+  -- .. and so is the source PAN, before the first field
+  pub early_gap : length frame < begin + 2 → length frame < src_address_begin fc
+      → (src_pan_id_fact frame fc ≡ None) × (src_address_fact frame fc ≡ unread_address mode) × (addressing_fact frame fc ≡ None) × (addressing_end_fact frame fc ≡ None)
   unfolding src_pan_id_fact
-  early_gap k l = gap (omega arith) (no_pan_yet frame (pan_ids_of fc).src (pan_ids_of fc).dst mode begin (src_pan_id_begin fc) (omega arith) k) (unread frame (src_address_begin fc) mode (omega arith))
+  early_gap k l =
+      let m = short (omega arith) in (
+        sym (no_pan_yet frame (pan_ids_of fc).src (pan_ids_of fc).dst mode begin (src_pan_id_begin fc) (omega arith) k),
+        sym (unread frame (src_address_begin fc) mode (omega arith)),
+        m.0,
+        m.1,
+      )
 
-  pub first_gap : pan_id_found frame begin (lengths_of fc).dst_pan_id ≡ None → before_gap fc n None (unread_address mode) ≡ numbered_info frame fc n
+  pub first_gap : pan_id_found frame begin (lengths_of fc).dst_pan_id ≡ None
+      → (src_pan_id_fact frame fc ≡ None) × (src_address_fact frame fc ≡ unread_address mode) × (addressing_fact frame fc ≡ None) × (addressing_end_fact frame fc ≡ None)
   unfolding lengths_of pan_id_length
   first_gap e =
       let k = pan_missing frame begin (pan_ids_of fc).dst e in
@@ -200,18 +209,22 @@ module _ (frame : List ℕ) (fc : FrameControl) (n : Option ℕ) where
   unfolding src_pan_id_fact lengths_of
   inherited_here_lem h e k = inherited frame (pan_ids_of fc).src (pan_ids_of fc).dst mode begin (src_pan_id_begin fc) h e k
 
-  pub second_gap : {p : Option ℕ} → begin ≤ length frame → pan_id_found frame begin (lengths_of fc).dst_pan_id ≡ Some p → address_fact frame (dst_address_begin fc) fc.dst_addressing_mode ≡ None → before_gap fc n (inherited_here p) (unread_address mode) ≡ numbered_info frame fc n
+  pub second_gap : {p : Option ℕ} → begin ≤ length frame → pan_id_found frame begin (lengths_of fc).dst_pan_id ≡ Some p → address_fact frame (dst_address_begin fc) fc.dst_addressing_mode ≡ None
+      → (src_pan_id_fact frame fc ≡ inherited_here p) × (src_address_fact frame fc ≡ unread_address mode) × (addressing_fact frame fc ≡ None) × (addressing_end_fact frame fc ≡ None)
   unfolding lengths_of
   second_gap h e f =
       let k = address_missing frame (dst_address_begin fc) fc.dst_addressing_mode f in
-      gap (omega arith) (inherited_here_lem h e (λ s. omega arith)) (unread frame (src_address_begin fc) mode (omega arith))
+      let l = short (omega arith) in
+      (sym (inherited_here_lem h e (λ s. omega arith)), sym (unread frame (src_address_begin fc) mode (omega arith)), l.0, l.1)
 
-  pub third_gap : {p : Option ℕ} → begin ≤ length frame → pan_id_found frame begin (lengths_of fc).dst_pan_id ≡ Some p → pan_id_found frame (src_pan_id_begin fc) (lengths_of fc).src_pan_id ≡ None → before_gap fc n (inherited_here p) (unread_address mode) ≡ numbered_info frame fc n
+  pub third_gap : {p : Option ℕ} → begin ≤ length frame → pan_id_found frame begin (lengths_of fc).dst_pan_id ≡ Some p → pan_id_found frame (src_pan_id_begin fc) (lengths_of fc).src_pan_id ≡ None
+      → (src_pan_id_fact frame fc ≡ inherited_here p) × (src_address_fact frame fc ≡ unread_address mode) × (addressing_fact frame fc ≡ None) × (addressing_end_fact frame fc ≡ None)
   unfolding lengths_of pan_id_length
   third_gap h e f =
       let k = pan_missing frame (src_pan_id_begin fc) (pan_ids_of fc).src f in
       let l : length frame < src_address_begin fc = rw k.0 (omega (arith, k.1)) in
-      gap (omega arith) (inherited_here_lem h e (λ s. k.1)) (unread frame (src_address_begin fc) mode (omega arith))
+      let m = short (omega arith) in
+      (sym (inherited_here_lem h e (λ s. k.1)), sym (unread frame (src_address_begin fc) mode (omega arith)), m.0, m.1)
 
   -- the places that have been passed
   dst_passed : {p : Option ℕ} → begin ≤ length frame → pan_id_found frame begin (lengths_of fc).dst_pan_id ≡ Some p → dst_address_begin fc ≤ length frame
@@ -237,80 +250,34 @@ module _ (frame : List ℕ) (fc : FrameControl) (n : Option ℕ) where
     before : src_pan_id_begin fc ≤ length frame
     before = address_passed (dst_passed h e1) e2
 
-    pub fourth_gap : src_address_fact frame fc ≡ None → before_gap fc n (option_or q (inherited_here p)) None ≡ numbered_info frame fc n
+    pub fourth_gap : address_fact frame (src_address_begin fc) fc.src_addressing_mode ≡ None
+        → (option_or q (inherited_here p) ≡ src_pan_id_fact frame fc) × (addressing_fact frame fc ≡ None) × (addressing_end_fact frame fc ≡ None)
     unfolding lengths_of
-    fourth_gap e4 = gap (address_missing frame (src_address_begin fc) mode e4) (read_pan h before e1 e3) (sym e4)
+    fourth_gap e4 =
+        let m = short (address_missing frame (src_address_begin fc) mode e4) in
+        (read_pan h before e1 e3, m.0, m.1)
 
-    pub whole : {b : Address} → src_address_fact frame fc ≡ Some b
-        → record {
-          frame_control = Some fc;
-          seq_nr = n;
-          addressing_fields = Some (record { dst_pan_id = p; dst_address = a });
-          src_pan_id = option_or q (inherited_here p);
-          src_address = Some b;
-          addressing_end = Some (header_length fc);
-        } ≡ numbered_info frame fc n
+    pub whole : {b : Address} → address_fact frame (src_address_begin fc) fc.src_addressing_mode ≡ Some b
+        → (option_or q (inherited_here p) ≡ src_pan_id_fact frame fc)
+        × (addressing_fact frame fc ≡ Some (record { dst_pan_id = p; dst_address = a }))
+        × (addressing_end_fact frame fc ≡ Some (header_length fc))
     unfolding addressing_fact addressing_end_fact lengths_of
     whole e4 =
-        let k : header_length fc ≤ length frame = address_there frame (src_address_begin fc) mode (src_passed before e3) e4 in
-        rw (read_pan h before e1 e3, pan_is frame begin (lengths_of fc).dst_pan_id e1, address_is frame (dst_address_begin fc) fc.dst_addressing_mode e2, e4, le-leb (header_length fc) (length frame) k)
-
--- The same for the code's own names: `at` is where the fields begin, `l` the lengths that were told.
-module _ (frame : List ℕ) (fc : FrameControl) (n : Option ℕ) {at : ℕ} {l : AddressingFieldsLengths} (begins : at ≡ addressing_begin fc) (told : l ≡ lengths_of fc) (h : at ≤ length frame) where
-  abbrev dst_at_of : ℕ
-  dst_at_of = at + l.dst_pan_id
-
-  abbrev src_pan_at : ℕ
-  src_pan_at = dst_at_of + l.dst_address
-
-  abbrev src_at : ℕ
-  src_at = src_pan_at + l.src_pan_id
-
-  pub ends_first : {u : Option Address} {r : PreliminaryFrameInfo} → r ≡ before_gap fc n None u → u ≡ unread_address fc.src_addressing_mode
-      → pan_id_found frame at l.dst_pan_id ≡ None → r ≡ numbered_info frame fc n
-  ends_first e f g = e ∙ rw f (first_gap frame fc n (rw (begins, told) at g))
-
-  module _ {p : Option ℕ} {i : Option ℕ} (e1 : pan_id_found frame at l.dst_pan_id ≡ Some p) (i_is : i ≡ inherited_pan_id l.src_pan_id l.src_address p) where
-    pub ends_second : {u : Option Address} {r : PreliminaryFrameInfo} → r ≡ before_gap fc n i u → u ≡ unread_address fc.src_addressing_mode
-        → address_fact frame dst_at_of fc.dst_addressing_mode ≡ None → r ≡ numbered_info frame fc n
-    ends_second e f g = e ∙ rw (f, i_is, told) (second_gap frame fc n (rw begins at h) (rw (begins, told) at e1) (rw (begins, told) at g))
-
-    pub ends_third : {u : Option Address} {r : PreliminaryFrameInfo} → r ≡ before_gap fc n i u → u ≡ unread_address fc.src_addressing_mode
-        → pan_id_found frame src_pan_at l.src_pan_id ≡ None → r ≡ numbered_info frame fc n
-    ends_third e f g = e ∙ rw (f, i_is, told) (third_gap frame fc n (rw begins at h) (rw (begins, told) at e1) (rw (begins, told) at g))
-
-    module _ {a : Address} {q : Option ℕ} {pan : Option ℕ} (e2 : address_fact frame dst_at_of fc.dst_addressing_mode ≡ Some a)
-        (e3 : pan_id_found frame src_pan_at l.src_pan_id ≡ Some q) (pan_is_from : pan ≡ option_or q i) where
-      pub ends_fourth : {r : PreliminaryFrameInfo} → r ≡ before_gap fc n pan None → address_fact frame src_at fc.src_addressing_mode ≡ None → r ≡ numbered_info frame fc n
-      ends_fourth e g = e ∙ rw (pan_is_from, i_is, told) (fourth_gap frame fc n (rw begins at h) (rw (begins, told) at e1) (rw (begins, told) at e2) (rw (begins, told) at e3) (rw (begins, told) at g))
-
-      pub ends_whole : {b : Address} → address_fact frame src_at fc.src_addressing_mode ≡ Some b
-          → record {
-            frame_control = Some fc;
-            seq_nr = n;
-            addressing_fields = Some (record { dst_pan_id = p; dst_address = a });
-            src_pan_id = pan;
-            src_address = Some b;
-            addressing_end = Some (src_at + l.src_address);
-          } ≡ numbered_info frame fc n
-      ends_whole g = rw (pan_is_from, i_is, told, begins) (whole frame fc n (rw begins at h) (rw (begins, told) at e1) (rw (begins, told) at e2) (rw (begins, told) at e3) (rw (begins, told) at g))
+        let k : header_length fc ≤ length frame = address_there frame (src_address_begin fc) mode (src_passed before e3) e4 in (
+          read_pan h before e1 e3,
+          rw (pan_is frame begin (lengths_of fc).dst_pan_id e1, address_is frame (dst_address_begin fc) fc.dst_addressing_mode e2, le-leb (header_length fc) (length frame) k),
+          rw (le-leb (header_length fc) (length frame) k),
+        )
 
 -- The facts so far, at each place where the reading ends before the address fields.
 module _ (frame : List ℕ) {fc : FrameControl} (there : frame_control_fact frame ≡ Some fc) where
-  pub not_well_formed : well_formed fc ≡ false → control_alone (Some fc) ≡ info_of frame
-  unfolding info_of after_control
-  not_well_formed v = rw (there, v)
-
-  pub numbered : {n : Option ℕ} {r : PreliminaryFrameInfo} → well_formed fc ≡ true → n ≡ seq_nr_fact frame fc → r ≡ numbered_info frame fc n → r ≡ info_of frame
-  unfolding info_of after_control
-  numbered v e f = rw (there, v, ← e) f
-
   pub number_gap : well_formed fc ≡ true → number_step frame fc.sequence_number_suppression ≡ None → before_gap fc None None (unread_address fc.src_addressing_mode) ≡ info_of frame
-  unfolding seq_nr_fact addressing_begin
+  unfolding info_of after_control seq_nr_fact addressing_begin
   number_gap v e =
       let g = number_missing frame _ e in
       let k : length frame < addressing_begin fc = rw g.0 g.1 in
-      numbered v (rw (g.0, lt-leb 3 (length frame) g.1)) (early_gap frame fc None (omega arith) (omega arith))
+      let m = early_gap frame fc (omega arith) (omega arith) in
+      rw (there, v, m.0, m.1, m.2, m.3, g.0, lt-leb 3 (length frame) g.1)
 
 -- the lengths that were told are small
 pub bounded : (fc : FrameControl) {l : AddressingFieldsLengths} → l ≡ lengths_of fc → Bounded l

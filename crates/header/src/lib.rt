@@ -36,6 +36,7 @@ pub struct PreliminaryFrameInfo {
 }
 
 // The N bytes from a place on, if they have arrived.
+#[tactic(auto, using(util::proofs::Numbers::in_place, std::proofs::lemmas::Slice::between_to_end))]
 fn bytes_at<const N: usize>(frame: &[u8], at: usize) -> Option<[u8; N]>
     ensures { MatchOption result (length frame.now < at + N) (λ b. (at + N ≤ length frame.now) × (number_at b 0 N ≡ number_at frame.now at N)) }
 {
@@ -135,7 +136,7 @@ fn before_gap(
 
 // The facts with those of the address fields, each field taken apart in its turn: one that is missing ends the reading with the
 // facts so far.
-#[tactic(auto, using(crate::proofs::Fields::bounded))]
+#[tactic(auto, using(crate::proofs::Fields::bounded, crate::proofs::Fields::first_gap, crate::proofs::Fields::second_gap, crate::proofs::Fields::third_gap, crate::proofs::Fields::fourth_gap, crate::proofs::Fields::whole))]
 fn numbered_info(
     frame: &[u8],
     fc: FrameControl,
@@ -179,6 +180,7 @@ fn numbered_info(
 }
 
 // The facts that the arrived bytes of a frame give; reading that stops early answers with the facts before the gap.
+#[tactic(auto, unfolding(crate::specs::Header::info_of, crate::specs::Header::after_control), using(crate::proofs::Fields::number_gap, crate::proofs::Fields::number_there, crate::proofs::Fields::control_there))]
 pub fn preliminary_frame_info(frame: &[u8]) -> PreliminaryFrameInfo
     ensures { result ≡ info_of frame.now }
 {

@@ -30,6 +30,7 @@ fn address_fields(address: Address) -> AddressFields
 }
 
 // The bytes of the facts of a frame; all bytes of a missing fact are 0.
+#[tactic(auto, unfolding(crate::specs::Info::written_info, crate::specs::Info::written_facts), using(crate::proofs::Parts::is_there, crate::proofs::Parts::is_beside, util::proofs::Numbers::le_bytes_8))]
 fn encode(frame: &[u8]) -> [u8; 32]
     ensures { result ≡ written_info frame.now }
 {
@@ -62,6 +63,7 @@ fn encode(frame: &[u8]) -> [u8; 32]
 }
 
 // Writes the facts that the arrived bytes of a frame give, where the slice for them has 32 bytes; else refusal 1.
+#[tactic(auto, unfolding(util::specs::Bytes::stored_over), using(crate::proofs::ReadBack::info_reads_back))]
 pub fn preliminary_frame_info(frame: &[u8], info: &mut [u8]) -> Result<(), Refusal>
     ensures { InfoCalled frame.now info.old (number_of result) info.new }
 {

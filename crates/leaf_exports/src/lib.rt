@@ -1,4 +1,5 @@
-// The leaves as C functions on numbers and byte slices: each is the function of leaves_c of its name, with that function's clauses.
+// The leaves as C functions on numbers and byte slices: each is the function of leaves_c of its name, with that function's clauses. (Two
+// crates, as a static library is no library for leaf_vectors.)
 #![tactic(auto)]
 
 ghost use Rattle.std.specs.Prelude.{◌≡◌};

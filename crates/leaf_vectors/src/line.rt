@@ -1,4 +1,5 @@
 // A line of 128 bytes: docs/VECTORS.md has its columns.
+use hex_digits::bytes;
 
 // What a line asks, with the bytes of a frame and how many of them are given, and the answer that it expects.
 #[derive(Clone, Copy)]
@@ -11,20 +12,6 @@ pub struct Question {
     pub b: u16,
     pub c: u8,
     pub expected: u64,
-}
-
-// The value of a hexadecimal digit, '0' to '9' or 'a' to 'f'; a space is 0.
-fn digit(c: u8) -> u8 {
-    if c < 64 { c % 16 } else { (c % 16 + 9) % 16 }
-}
-
-// The bytes that pairs of digits are.
-fn bytes<const N: usize>(digits: &[u8]) -> [u8; N] {
-    let mut all = [0; N];
-    for (byte, [high, low]) in all.iter_mut().zip(digits.as_chunks::<2>().0) {
-        *byte = digit(*high) << 4 | digit(*low);
-    }
-    all
 }
 
 impl From<&[u8; 128]> for Question {

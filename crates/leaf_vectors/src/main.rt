@@ -102,7 +102,8 @@ impl Tally {
     }
 }
 
-// The input ends where fewer bytes than a line's are left.
+// The input ends where fewer bytes than a line's are left. `for` with `break` is the form that the language has for a loop that ends
+// with its input.
 fn replay(rt: &impl Print, input: &mut impl io::Read) -> io::Result<Tally> {
     let mut tally = Tally::new();
     let mut line = [0u8; 128];

@@ -18,7 +18,8 @@ pub fn fields(fc: FrameControl) -> u64 {
         | (fc.src_addressing_mode as u64) << 14
 }
 
-// The bytes of the header up to the end of the addresses.
+// The bytes of the header up to the end of the addresses. Written out: with a fold over the four lengths the goal of its overflow stays
+// open.
 pub fn header_length(fc: FrameControl) -> u64 {
     let l = addressing::addressing_fields_lengths(fc);
     let number = u64::from(!fc.sequence_number_suppression);
@@ -27,7 +28,7 @@ pub fn header_length(fc: FrameControl) -> u64 {
     2 + number + dst + src
 }
 
-// The destination PAN; 65536 where it is omitted.
+// The destination PAN; 65536 where it is omitted. It is alike ack_seq_num_number of leaves_c by chance: another width, another number.
 fn pan_id(id: Option<u16>) -> u64 {
     id.map_or(65536, u64::from)
 }

@@ -14,6 +14,7 @@ fn lengths_number(l: AddressingFieldsLengths) -> u32
     u32::from_le_bytes([l.dst_pan_id, l.dst_address, l.src_pan_id, l.src_address])
 }
 
+// A sequence number, or 256 for none. It is alike pan_id of leaf_vectors by chance: another width, another number.
 #[tactic(auto, unfolding(crate::specs::Leaves::ack_seq_num_number))]
 fn ack_seq_num_number(n: Option<u8>) -> u16
     ensures { result ≡ ack_seq_num_number n }

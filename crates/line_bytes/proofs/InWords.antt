@@ -5,6 +5,7 @@ use mathlib.Core.Path.{◌≡◌, refl, sym}
 use mathlib.Core.Bool.{Bool, true, false, true≢false, cond, ◌||◌}
 use mathlib.Core.List.{List, [], ◌∷◌}
 use lib.Dec.{leb, eqb}
+use Rattle.std.proofs.lemmas.Bool.{or_parts}
 use borrow.Author.Tests.{leb-false, lt-leb, eqb-false, ne_eqb}
 use Rattle.tasks.specs.declared.Request.{Request}
 use Rattle.tasks.specs.declared.State.{State}
@@ -34,10 +35,6 @@ no_refusal false false false false false false h = (refl, refl, refl, refl, refl
 none_true : (token range held buffer unfit waits : Bool) → NoneTrue token range held buffer unfit waits → eqb (refusal token range held buffer unfit waits) 0 ≡ true
 none_true token range held buffer unfit waits n = rw (n.0, n.1, n.2, n.3, n.4, n.5)
 
-neither : (a b : Bool) → (a || b) ≡ false → (a ≡ false) × (b ≡ false)
-neither true b h = absurd (true≢false h)
-neither false b h = (refl, h)
-
 -- no request has the number exactly if each has another
 module _ (number : Request → ℕ) (n : ℕ) where
   abbrev has : Request → Bool
@@ -46,7 +43,7 @@ module _ (number : Request → ℕ) (n : ℕ) where
   no_other : (qs : List Request) → any_passes has qs ≡ false → Every (λ other. number other ≡ n → ⊥) qs
   no_other [] h = tt
   no_other (q ∷ qs) h =
-      let k = neither (has q) (any_passes has qs) h in (eqb-false (number q) n k.0, no_other qs k.1)
+      let k = or_parts (has q) (any_passes has qs) h in (eqb-false (number q) n k.0, no_other qs k.1)
 
   others : (qs : List Request) → Every (λ other. number other ≡ n → ⊥) qs → any_passes has qs ≡ false
   others [] h = refl

@@ -59,25 +59,28 @@ fn record_bytes(q: Request) -> [u8; 24]
 {
     let start = start_fields(q.start);
     let task = task_fields(q.task);
-    let token = util::bytes_of_u32(q.token);
-    let time = util::bytes_of_u64(start.time);
-    let length = util::bytes_of_u16(task.length);
-    [
-        task.kind, start.code, task.cca, q.buffer, token[0], token[1], token[2], token[3], time[0],
-        time[1], time[2], time[3], time[4], time[5], time[6], time[7], length[0], length[1], 0, 0,
-        0, 0, 0, 0,
-    ]
+    let mut bytes = [0; 24];
+    bytes[0] = task.kind;
+    bytes[1] = start.code;
+    bytes[2] = task.cca;
+    bytes[3] = q.buffer;
+    bytes[4..8].copy_from_slice(&util::bytes_of_u32(q.token));
+    bytes[8..16].copy_from_slice(&util::bytes_of_u64(start.time));
+    bytes[16..18].copy_from_slice(&util::bytes_of_u16(task.length));
+    bytes
 }
 
 // The bytes that a line is written as.
+#[tactic(auto, using(crate::proofs::Loops::all_written))]
 pub fn encode(line: &Line) -> [u8; 96]
     ensures { result ≡ written_line line.now }
 {
-    let mut bytes = [0; 96];
+    let mut records = [[0; 24]; DRIVER_CHANNEL_CAPACITY];
     for (i, q) in line.requests().iter().enumerate() {
-        let at = 24 * i;
-        bytes[at..at + 24].copy_from_slice(&record_bytes(*q));
+        records[i] = record_bytes(*q);
     }
+    let mut bytes = [0; 96];
+    bytes.copy_from_slice(records.as_flattened());
     bytes
 }
 
@@ -106,7 +109,7 @@ fn task_at(kind: u8, cca: u8, length: u16) -> Task
     }
 }
 
-// The request of the record that the bytes begin with.
+// The request of the record that the bytes begin with: each field from its own place.
 #[tactic(auto, unfolding(crate::specs::Layout::request_at))]
 fn request_at(bytes: &[u8]) -> Request
     ensures { result ≡ request_at bytes.now }
@@ -125,26 +128,17 @@ fn request_at(bytes: &[u8]) -> Request
     }
 }
 
-// The bytes behind the record that these begin with.
-#[tactic(auto, using(std::proofs::lemmas::List::take_rest, std::proofs::lemmas::List::drop_min))]
-fn behind_record(bytes: &[u8]) -> &[u8]
-    ensures { result.now ≡ drop 24 bytes.now }
-{
-    &bytes[bytes.len().min(24)..]
-}
-
 // The requests of the records before the first one that is free.
+#[tactic(auto, unfolding(crate::specs::Layout::line_at), using(crate::proofs::Loops::reading))]
 fn line_at(bytes: &[u8]) -> Line
     ensures { result ≡ line_at bytes.now }
 {
     let mut line = Line::new();
-    let mut rest = bytes;
-    for i in 0..DRIVER_CHANNEL_CAPACITY {
-        if util::byte_at(rest, 0) == 0 {
+    for record in bytes.chunks(24).take(DRIVER_CHANNEL_CAPACITY) {
+        if util::byte_at(record, 0) == 0 {
             break;
         }
-        line.push(request_at(rest));
-        rest = behind_record(rest);
+        line.push(request_at(record));
     }
     line
 }
@@ -171,7 +165,7 @@ fn line_fits(s: State, requests: &[Request]) -> bool
     }
 }
 
-#[tactic(auto, using(crate::proofs::Loops::pointwise_same))]
+#[tactic(auto, using(state_bytes::proofs::Same::same_list_is))]
 fn is_written_as(bytes: &[u8], line: &Line) -> bool
     ensures { result ≡ same_list (written_line line.now) bytes.now }
 {
@@ -184,9 +178,5 @@ pub fn decode(s: State, bytes: &[u8]) -> Option<Line>
     ensures { DecodesLine s bytes.now result }
 {
     let line = line_at(bytes);
-    if line_fits(s, line.requests()) && is_written_as(bytes, &line) {
-        Some(line)
-    } else {
-        None
-    }
+    (line_fits(s, line.requests()) && is_written_as(bytes, &line)).then_some(line)
 }

@@ -1,52 +1,24 @@
 -- From what the parts of a call or a start ensure to its outcome; over plain values.
 -- Assumes nothing.
-use Rattle.std.proofs.Common.{Some, None}
-use Rattle.std.proofs.lemmas.Option.{none-some}
-use Prim.Native.Nat.{ℕ, ◌<◌, ◌≤◌}
-use mathlib.Core.Path.{◌≡◌, refl, sym, ◌∙◌}
+use Prim.Native.Nat.{ℕ}
+use mathlib.Core.Path.{◌≡◌, refl}
 use mathlib.Core.Bool.{Bool, true, false, cond, not, ◌||◌}
 use mathlib.Core.List.{List}
 use lib.Dec.{eqb}
 use lib.ListN.{length}
-use borrow.Author.Tests.{eq-eqb, ne_eqb, lt-ltb, le-ltb}
-use Rattle.radio_frame.specs.declared.Settings.{Settings}
 use Rattle.radio_frame.specs.Settings.{pool_unfit, rooms_unfit, own_buffers_unfit, settings_refusal}
-use Rattle.tasks.specs.declared.Asked.{Asked}
-use Rattle.tasks.specs.declared.Call.{Call}
 use Rattle.tasks.specs.declared.State.{State}
-use Rattle.tasks.specs.declared.Wait.{Wait}
-use Rattle.moves.specs.Move.{refused_of, guarded_of}
-use Rattle.engine.specs.Step.{Outcome}
-use Rattle.engine.specs.Step.{outcome_of, step_of, start_of, start_pool}
-use Rattle.driver.specs.Promises.{Stepped, Started}
+use Rattle.moves.specs.Move.{guarded_of}
+use Rattle.engine.specs.Step.{step_of, start_of, start_pool}
 use Rattle.engine.specs.Refusals.{fits, later_refusal, refusal_of, InOrder, RefusedUnchanged}
 use Rattle.engine.proofs.Refusals.{in_order, refused_unchanged}
 use Rattle.call_codes.specs.declared.ExportedCall.{ExportedCall}
 use Rattle.call_codes.specs.declared.StartNumbers.{StartNumbers}
 use Rattle.call_codes.specs.Codes.{known_flag, known_of, call_of, settings_of}
-use Rattle.outcomes.specs.Outcomes.{or_five, unknown_of, made_outcome, made_pool, unknown_start, begun_outcome, begun_pool}
-
--- an Option made by a test says what the test is
-there : {c d : Call} (known : Bool) → Some c ≡ cond known (Some d) None → (known ≡ true) × (c ≡ d)
-there true e = (refl, cc)
-there false e = absurd (none-some _ (sym e))
-
-missing : (d : Call) (known : Bool) → None ≡ cond known (Some d) None → known ≡ false
-missing d true e = absurd (none-some _ e)
-missing d false e = refl
+use Rattle.outcomes.specs.Outcomes.{or_five, unknown_of, made_outcome, made_pool, begun_outcome, begun_pool}
 
 -- ---- A call
 module _ (s : State) (po : List ℕ) (x : ExportedCall) where
-  pub made_known : (c : Call) → Some c ≡ cond (known_of x) (Some (call_of x)) None → (r : Outcome) (po' : List ℕ) → Stepped s po c r po'
-      → (r ≡ made_outcome s po x) × (po' ≡ made_pool s po x)
-  unfolding made_outcome made_pool
-  made_known c k r po' S = let t = there (known_of x) k in (S.returns ∙ rw (t.0, t.1), S.writes ∙ rw (t.0, t.1))
-
-  pub made_unknown : None ≡ cond (known_of x) (Some (call_of x)) None → (r : Outcome) → r ≡ unknown_of s (length po)
-      → (r ≡ made_outcome s po x) × (po ≡ made_pool s po x)
-  unfolding made_outcome made_pool
-  made_unknown k r e = let t = missing _ (known_of x) k in (e ∙ rw t, rw t)
-
   -- refused, it leaves state and pool; its refusal is the first of the list
   pub made_unchanged : ((made_outcome s po x).refusal ≡ 0 → ⊥) → ((made_outcome s po x).state ≡ s) × (made_pool s po x ≡ po)
   unfolding made_outcome made_pool unknown_of RefusedUnchanged
@@ -75,17 +47,6 @@ module _ (s : State) (po : List ℕ) (x : ExportedCall) where
 
 -- ---- A start
 module _ (n : StartNumbers) (po : List ℕ) where
-  pub begun_known : n.implicit_broadcast < 2 → (set : Settings) → set ≡ settings_of n → (r : Outcome) (po' : List ℕ) → Started set po r po'
-      → (r ≡ begun_outcome n po) × (po' ≡ begun_pool n po)
-  unfolding begun_outcome begun_pool
-  begun_known t set e r po' S =
-      (S.returns ∙ simp (lt-ltb n.implicit_broadcast 2 t, e), S.writes ∙ simp (lt-ltb n.implicit_broadcast 2 t, e))
-
-  pub begun_unknown : 2 ≤ n.implicit_broadcast → (set : Settings) → set ≡ settings_of n → (r : Outcome) → r ≡ unknown_start set (length po)
-      → (r ≡ begun_outcome n po) × (po ≡ begun_pool n po)
-  unfolding begun_outcome begun_pool
-  begun_unknown t set e r p = (p ∙ simp (le-ltb n.implicit_broadcast 2 t, e), simp (le-ltb n.implicit_broadcast 2 t))
-
   -- a refused start leaves the pool
   pub begun_unchanged : ((begun_outcome n po).refusal ≡ 0 → ⊥) → begun_pool n po ≡ po
   unfolding begun_outcome begun_pool start_of start_pool guarded_of

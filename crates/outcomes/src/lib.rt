@@ -22,6 +22,7 @@ fn unknown(s: State, pool: usize) -> Result<(State, Reply), Refusal>
 }
 
 // The engine's outcome of a call.
+#[tactic(auto, unfolding(crate::specs::Outcomes::made_outcome, crate::specs::Outcomes::made_pool))]
 pub fn made(s: State, pool: &mut [u8], x: ExportedCall) -> Result<(State, Reply), Refusal>
     ensures { (outcome_told s result ≡ made_outcome s pool.old x) × (pool.new ≡ made_pool s pool.old x) }
 {
@@ -43,6 +44,7 @@ fn unknown_start(set: Settings, pool: usize) -> Result<(State, Reply), Refusal>
 }
 
 // The engine's outcome of a start.
+#[tactic(auto, unfolding(crate::specs::Outcomes::begun_outcome, crate::specs::Outcomes::begun_pool))]
 pub fn begun(n: StartNumbers, pool: &mut [u8]) -> Result<(State, Reply), Refusal>
     ensures { (outcome_told (idle_of (settings_of n)) result ≡ begun_outcome n pool.old) × (pool.new ≡ begun_pool n pool.old) }
 {

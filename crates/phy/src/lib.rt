@@ -29,11 +29,7 @@ impl From<Ifs> for u8 {
 
     #[tactic(auto, unfolding(crate::specs::Phy::ifs_code))]
     fn from(ifs: Ifs) -> u8 {
-        match ifs {
-            Ifs::Aifs => 0,
-            Ifs::Sifs => 1,
-            Ifs::Lifs => 2,
-        }
+        ifs as u8
     }
 }
 

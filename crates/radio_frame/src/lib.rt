@@ -1,15 +1,16 @@
 // Settings, and the frame record as numbers beside the lent pool (radio_frame.rs, repr.rs).
 #![tactic(auto)]
 
-ghost use Rattle.std.specs.Prelude.{◌≡◌};
+ghost use Rattle.std.specs.Prelude.{◌≡◌, ◌+◌, ltb, take, drop};
 ghost use Rattle.refusals.specs.Refusals.{number_of};
+ghost use Rattle.phy.specs.Phy.{phy_max_packet_size};
 ghost use Rattle.radio_frame.specs.Settings.{pool_unfit, rooms_unfit, own_buffers_unfit, settings_refusal};
 ghost use Rattle.radio_frame.specs.RadioFrame.{frame_start, sdu_length, radio_frame_of, ack_seq_num_of};
 
 use refusals::Refusal;
 
 // What start sets; a re-arm exchanges the spare buffer. The hardware address is its eight bytes, highest first, as one number.
-#[derive(Clone, Copy)]
+#[derive(Clone, Copy, Default)]
 pub struct Settings {
     pub count: u8,
     pub headroom: u8,
@@ -25,7 +26,7 @@ pub struct Settings {
 // The bytes of one buffer in the pool.
 pub const BUFFER_LENGTH: u32 = 144;
 
-// Places in the pool, from start up to but not including end.
+// Places in the pool, from start up to but not including end. (Not std's Range, which is no Copy.)
 #[derive(Clone, Copy)]
 pub struct Range {
     pub start: u32,
@@ -96,6 +97,20 @@ pub fn sdu_length(set: Settings, length: u16) -> u16
     ensures { result ≡ sdu_length set length }
 {
     length.saturating_add(set.fcs_length.into())
+}
+
+// The first n bytes of the frame in a buffer: those of them that the pool has.
+pub fn frame_bytes(set: Settings, pool: &[u8], buffer: u8, n: usize) -> &[u8]
+    ensures { result.now ≡ take n (drop (frame_start set buffer) pool.now) }
+{
+    util::part(pool, frame_start(set, buffer) as usize, n)
+}
+
+// Whether a length without checksum is above the longest frame's.
+pub fn is_too_long(set: Settings, length: u16) -> bool
+    ensures { result ≡ ltb phy_max_packet_size (length + set.fcs_length) }
+{
+    phy::PHY_MAX_PACKET_SIZE < u32::from(length) + u32::from(set.fcs_length)
 }
 
 // The parts of the frame of a length without checksum in a buffer.

@@ -19,11 +19,7 @@ use tasks::{Action, Answers, Asked, Call, Reply, RxTask, State, Timestamp, Trans
 fn is_broadcast_destination(address: Address) -> bool
     ensures { result ≡ broadcast_destination address }
 {
-    match address {
-        Address::Absent => true,
-        Address::Short(a) => a == 0xFFFF,
-        Address::Extended(_) => false,
-    }
+    matches!(address, Address::Absent | Address::Short(0xFFFF))
 }
 
 // Whether a frame for us is a broadcast: to the short address FFFF, or without a destination.
@@ -119,7 +115,7 @@ fn header_move(set: Settings, q: RxTask, info: PreliminaryFrameInfo, length: u16
 fn check_arrived(set: Settings, arrived: u16) -> Result<(), Refusal>
     ensures { number_of result ≡ arrived_refusal set arrived }
 {
-    if phy::PHY_MAX_PACKET_SIZE < u32::from(arrived) + u32::from(set.fcs_length) {
+    if radio_frame::is_too_long(set, arrived) {
         return Err(Refusal::ReceivedLength);
     }
     Ok(())
@@ -130,9 +126,8 @@ fn read(s: State, pool: &[u8], q: RxTask, arrived: u16, length: u16) -> Result<A
     ensures { told s result ≡ header_of s pool.now q arrived length }
 {
     check_arrived(s.set, arrived)?;
-    let at = radio_frame::frame_start(s.set, q.buffer) as usize;
-    let info = header::preliminary_frame_info(util::part(pool, at, usize::from(arrived)));
-    Ok(header_move(s.set, q, info, length))
+    let frame = radio_frame::frame_bytes(s.set, pool, q.buffer, arrived.into());
+    Ok(header_move(s.set, q, header::preliminary_frame_info(frame), length))
 }
 
 // A call in a wait for the header: Header.

@@ -1,7 +1,7 @@
--- No refusal has the number 0.
+-- No refusal has the number 0, and `?` hands a refusal on.
 -- Assumes nothing.
-use Rattle.std.proofs.Common.{◌≡◌, false, refl}
-use Rattle.std.specs.Prelude.{eqb}
+use Rattle.std.proofs.Common.{◌≡◌, false, refl, ap}
+use Rattle.std.specs.Prelude.{eqb, Result, Ok, Err, IsErrAnd}
 use Rattle.refusals.specs.declared.Refusal.{Refusal}
 use Rattle.refusals.specs.Refusals.{refusal_number}
 
@@ -20,3 +20,8 @@ not_zero Refusal.LatestAckStart = refl
 not_zero Refusal.LineFull = refl
 not_zero Refusal.TokenWaits = refl
 not_zero Refusal.FrameLength = refl
+
+-- what the exit of a `?` returns: the refusal that it met
+pub handed_on : {T : Type 0} {refusal : Refusal} (r : Result T Refusal) → IsErrAnd r (λ e. e ≡ refusal) → r ≡ Err refusal
+handed_on (Ok x) h = absurd h
+handed_on (Err e) h = ap Err h

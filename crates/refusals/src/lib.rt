@@ -4,23 +4,23 @@
 ghost use Rattle.std.specs.Prelude.{◌≡◌};
 ghost use Rattle.refusals.specs.Refusals.{refusal_number, number_of};
 
-// The refusals by what they say; the numbers stand in specs/Refusals.antt.
+// The refusals by what they say, with document 01's numbers.
 #[derive(Clone, Copy, Debug, PartialEq, Eq)]
 pub enum Refusal {
-    Slices,
-    Pool,
-    Lengths,
-    OwnBuffers,
-    Unfit,
-    TokenHeld,
-    BufferHeld,
-    TxLength,
-    NotAllowed,
-    ReceivedLength,
-    LatestAckStart,
-    LineFull,
-    TokenWaits,
-    FrameLength,
+    Slices = 1,
+    Pool = 2,
+    Lengths = 3,
+    OwnBuffers = 4,
+    Unfit = 5,
+    TokenHeld = 6,
+    BufferHeld = 7,
+    TxLength = 8,
+    NotAllowed = 9,
+    ReceivedLength = 10,
+    LatestAckStart = 11,
+    LineFull = 12,
+    TokenWaits = 13,
+    FrameLength = 14,
 }
 
 // The number that the exported form returns.
@@ -28,22 +28,7 @@ impl From<Refusal> for u8 {
     ghost from_gives = { λ refusal number. number ≡ refusal_number refusal };
 
     fn from(refusal: Refusal) -> u8 {
-        match refusal {
-            Refusal::Slices => 1,
-            Refusal::Pool => 2,
-            Refusal::Lengths => 3,
-            Refusal::OwnBuffers => 4,
-            Refusal::Unfit => 5,
-            Refusal::TokenHeld => 6,
-            Refusal::BufferHeld => 7,
-            Refusal::TxLength => 8,
-            Refusal::NotAllowed => 9,
-            Refusal::ReceivedLength => 10,
-            Refusal::LatestAckStart => 11,
-            Refusal::LineFull => 12,
-            Refusal::TokenWaits => 13,
-            Refusal::FrameLength => 14,
-        }
+        refusal as u8
     }
 }
 

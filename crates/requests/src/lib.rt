@@ -33,7 +33,7 @@ fn allow(tx: Starts, rx: Starts) -> Allowed
     Allowed { tx, rx }
 }
 
-// The starts that a wait which asks allows.
+// The starts that a wait which asks allows, a row for each wait, as document 01's table has them.
 #[tactic(auto, unfolding(crate::specs::Requests::allowed_of))]
 pub fn allowed_in(a: Asked) -> Allowed
     ensures { result ≡ allowed_of a }
@@ -77,9 +77,7 @@ fn is_tx_length_unfit(set: Settings, task: Task) -> bool
     ensures { result ≡ tx_length_unfit set task }
 {
     match task {
-        Task::Tx(n, _) => {
-            n < 3 || phy::PHY_MAX_PACKET_SIZE < u32::from(n) + u32::from(set.fcs_length)
-        }
+        Task::Tx(n, _) => n < 3 || radio_frame::is_too_long(set, n),
         Task::Rx => false,
     }
 }

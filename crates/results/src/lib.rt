@@ -15,9 +15,7 @@ fn is_received_unfit(set: Settings, r: RxResult) -> bool
     ensures { result ≡ received_unfit set r }
 {
     match r {
-        RxResult::Frame(n, _, _) => {
-            n == 0 || phy::PHY_MAX_PACKET_SIZE < u32::from(n) + u32::from(set.fcs_length)
-        }
+        RxResult::Frame(n, _, _) => n == 0 || radio_frame::is_too_long(set, n),
         RxResult::RxWindowEnded | RxResult::CrcError(_, _) => false,
     }
 }
@@ -82,8 +80,7 @@ fn leave_sending_ack(r: TaskResult) -> Result<Option<Answer>, Refusal>
 fn ack_response(set: Settings, pool: &[u8], a: AwaitedAck, length: u16) -> Response
     ensures { result ≡ ack_response set pool.now a length }
 {
-    let at = radio_frame::frame_start(set, set.spare_buffer) as usize;
-    let frame = util::part(pool, at, 3);
+    let frame = radio_frame::frame_bytes(set, pool, set.spare_buffer, 3);
     if ack::is_ack_for(frame, length, a.number) {
         Response::Sent(a.time)
     } else {

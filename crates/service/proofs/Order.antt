@@ -1,6 +1,7 @@
 -- Requests of one kind leave in the order of their arrival: an arrival that leaves is the first of its kind among those that wait, so
 -- those that have left and those that wait are, of each kind, the same list before and after.
 -- Assumes nothing.
+use Rattle.std.proofs.lemmas.Bool.{and_parts, false≢true}
 use Prim.Native.Nat.{ℕ, suc, ◌<◌}
 use mathlib.Core.Path.{◌≡◌, refl, sym, ◌∙◌, ap}
 use mathlib.Core.Bool.{Bool, true, false, cond, not, ◌&&◌, beq}
@@ -28,17 +29,10 @@ places_append p (a ∷ xs) ys = go (p a.request) (places_append p xs ys)
     go true ih = ap (λ (l : List ℕ). a.place ∷ l) ih
     go false ih = ih
 
-append_assoc : (xs ys zs : List ℕ) → (xs ++ ys) ++ zs ≡ xs ++ (ys ++ zs)
-append_assoc [] ys zs = refl
-append_assoc (x ∷ xs) ys zs = ap (λ (l : List ℕ). x ∷ l) (append_assoc xs ys zs)
-
 -- ---- A test that is the same for all requests of a kind
 
 pub record ByKind (kind p : Request → Bool) : Type 0 where
   pub same : (q r : Request) → kind q ≡ true → kind r ≡ true → p q ≡ p r
-
-differ : {A : Type 0} → false ≡ true → A
-differ h = let z : ◌≡◌ {A = ℕ} 0 1 = ap (λ (b : Bool). cond b 1 0) h in absurd (omega arith)
 
 -- the one that leaves, then those that stay behind: of the kind, the same as before
 pub leaves_in_order : (kind p : Request → Bool) (rest : List Arrival) → ByKind kind p
@@ -52,7 +46,7 @@ leaves_in_order kind p (a ∷ rest) B = go (p a.request) refl (kind a.request) r
       where
         at : (t : Bool) → p x.request ≡ t → (u : Bool) → kind x.request ≡ u → places_of kind (earliest_in p xs) ≡ []
             → places_of kind (earliest_in p (x ∷ xs)) ≡ []
-        at true f true g ih = differ (sym e ∙ B.same a.request x.request k g ∙ f)
+        at true f true g ih = absurd (false≢true (sym e ∙ B.same a.request x.request k g ∙ f))
         at true f false g ih = simp (f, g)
         at false f u g ih = simp (f, ih)
 
@@ -71,13 +65,9 @@ leaves_in_order kind p (a ∷ rest) B = go (p a.request) refl (kind a.request) r
 
 beq_true : (x y : Bool) → beq x y ≡ true → x ≡ y
 beq_true true true h = refl
-beq_true true false h = differ h
-beq_true false true h = differ h
+beq_true true false h = absurd (false≢true h)
+beq_true false true h = absurd (false≢true h)
 beq_true false false h = refl
-
-both_true : (x y : Bool) → (x && y) ≡ true → (x ≡ true) × (y ≡ true)
-both_true true y h = (refl, h)
-both_true false y h = differ h
 
 start_by_kind : (w : Starts) (s t : Timestamp) → timed s ≡ timed t → start_allowed w s ≡ start_allowed w t
 unfolding start_allowed
@@ -88,8 +78,8 @@ start_by_kind Starts.Any s t e = refl
 task_by_kind : (w : Allowed) (s t : Timestamp) (x y : Task) → timed s ≡ timed t → is_transmit x ≡ is_transmit y → not_allowed w s x ≡ not_allowed w t y
 unfolding not_allowed
 task_by_kind w s t (Task.Tx n c) (Task.Tx m d) e f = ap not (start_by_kind w.tx s t e)
-task_by_kind w s t (Task.Tx n c) Task.Rx e f = differ (sym f)
-task_by_kind w s t Task.Rx (Task.Tx m d) e f = differ f
+task_by_kind w s t (Task.Tx n c) Task.Rx e f = absurd (false≢true (sym f))
+task_by_kind w s t Task.Rx (Task.Tx m d) e f = absurd (false≢true f)
 task_by_kind w s t Task.Rx Task.Rx e f = ap not (start_by_kind w.rx s t e)
 
 pub allowed_by_kind : (x : Asks) (transmit at-a-time : Bool) → ByKind (of_kind transmit at-a-time) (allowed_by x)
@@ -99,8 +89,8 @@ allowed_by_kind (ask w) transmit at-a-time =
     record {
       same =
           λ q r k l.
-          let kq = both_true _ _ k in
-          let kr = both_true _ _ l in
+          let kq = and_parts _ _ k in
+          let kr = and_parts _ _ l in
           ap not
           (task_by_kind w q.start r.start q.task r.task
           (beq_true _ _ kq.1 ∙ sym (beq_true _ _ kr.1))

@@ -1,5 +1,6 @@
 -- The claims follow from what state, line and book say of each other.
 -- Assumes nothing.
+use Rattle.std.proofs.lemmas.List.{length-append}
 use Prim.Native.Nat.{ℕ, suc, ◌+◌, ◌≤◌}
 use mathlib.Core.Path.{◌≡◌, refl, sym, ◌∙◌, ap}
 use mathlib.Core.Bool.{Bool, true, false, cond, not, ◌&&◌, ◌||◌, or_assoc}
@@ -35,7 +36,7 @@ use Rattle.engine.specs.Agreement.{standing}
 use Rattle.engine.specs.Book.{Radio, has_number}
 use Rattle.engine.specs.BookClaims.{one, count, tokens}
 use Rattle.engine.specs.Lists.{EarlierFirst}
-use Rattle.engine.proofs.Kept.{in_time, limits, count_own}
+use Rattle.engine.proofs.Kept.{in_time, limits, count_own, count_append}
 use Rattle.engine.proofs.Table.{Legal}
 use Rattle.engine.proofs.History.{Fresh}
 use Rattle.engine.proofs.AckTurns.{taken_turns, refused_turns, every_ack_turn_is_due}
@@ -52,16 +53,12 @@ use Rattle.service.proofs.Arrivals.{length_is, token_waits, buffer_waits, Search
 use Rattle.service.proofs.Kept.{NamedFits, LineKept, token_by_book, buffer_by_book}
 use Rattle.service.proofs.Cases.{OnLine, arrives, withdraws, Case, refused, on_line, given, taken, service_case}
 use Rattle.service.proofs.Heard.{head_is, one_not_none, taken_told, every_call_heard}
-use Rattle.service.proofs.Steps.{count_append, length_same, fresh_taken, legal_taken, taken_zero}
+use Rattle.service.proofs.Steps.{length_same, fresh_taken, legal_taken, taken_zero}
 use Rattle.service.proofs.Refusals.{service_refusal_lem}
 
 has_append : (x : ℕ) (l m : List ℕ) → has_number x (l ++ m) ≡ (has_number x l || has_number x m)
 has_append x [] m = refl
 has_append x (y ∷ l) m = ap (λ (t : Bool). eqb y x || t) (has_append x l m) ∙ sym (or_assoc (eqb y x) (has_number x l) (has_number x m))
-
-length_append : (l m : List ℕ) → length (l ++ m) ≡ length l + length m
-length_append [] m = omega arith
-length_append (x ∷ l) m = omega (arith, length_append l m)
 
 length_buffers : (rest : List Arrival) → length (waiting_buffers rest) ≡ length rest
 length_buffers [] = refl
@@ -89,7 +86,7 @@ module _ (s : State) (qs : List Request) (b : LineBook) (K : LineKept s qs b) wh
         in_time = in_time (standing s) b.book.requests H.requests (limits s.set s.wait);
         to_its_request = H.stray;
         returns_held = H.unheld;
-        held_number = omega (arith, length_append b.book.held (waiting_buffers b.waiting), length_buffers b.waiting, H.size);
+        held_number = omega (arith, length-append b.book.held (waiting_buffers b.waiting), length_buffers b.waiting, H.size);
         different = λ x. omega (arith, count_append x b.book.held (waiting_buffers b.waiting), K.once x);
         in_range = λ x h. K.low x (omega (arith, h, count_append x b.book.held (waiting_buffers b.waiting)));
         one_each = λ t. omega (arith, count_append t (tokens b.book.requests) (waiting_tokens b.waiting), K.one_each t);

@@ -1,5 +1,6 @@
 -- Each of the eleven calls keeps what state, line and book say of each other.
 -- Assumes nothing.
+use Rattle.std.proofs.lemmas.Bool.{or_parts}
 use Prim.Native.Nat.{ℕ, suc, ◌+◌, ◌≤◌, ◌<◌}
 use mathlib.Core.Path.{◌≡◌, refl, sym, ◌∙◌, ap}
 use mathlib.Core.Bool.{Bool, true, false, cond, not, ◌&&◌, ◌||◌}
@@ -26,8 +27,8 @@ use Rattle.engine.specs.Actions.{outbound_open}
 use Rattle.engine.specs.Book.{Entry, Book, older, entry_of, requests_entered, held_entered, book_step}
 use Rattle.engine.specs.BookClaims.{one, count, tokens}
 use Rattle.engine.proofs.Count.{none_there, one_self}
-use Rattle.engine.proofs.Kept.{state_at}
-use Rattle.engine.proofs.Table.{Legal, passed, neither, step_legal, taken_legal}
+use Rattle.engine.proofs.Kept.{state_at, count_append}
+use Rattle.engine.proofs.Table.{Legal, passed, step_legal, taken_legal}
 use Rattle.engine.proofs.History.{Fresh, legal_keeps}
 use Rattle.waiting_line.specs.Line.{allows, has_token, has_buffer, is_tx, any_passes, earliest_of, without_earliest, is_token}
 use Rattle.service.specs.LineBook.{Arrival, LineBook, others_in, arrives, withdraws, named_after, told, passes}
@@ -109,8 +110,8 @@ unfolding arrive_refusal arrival_refusal
 arrive_keeps s qs b pool q K z =
     let six = passed (token_held s.wait q.token) 6 _ (omega arith) z in
     let seven = passed (leb s.set.count q.buffer || (buffer_held s q.buffer || any_passes (has_buffer q.buffer) qs)) 7 _ (omega arith) six.1 in
-    let range = neither (leb s.set.count q.buffer) _ seven.0 in
-    let held = neither (buffer_held s q.buffer) _ range.1 in
+    let range = or_parts (leb s.set.count q.buffer) _ seven.0 in
+    let held = or_parts (buffer_held s q.buffer) _ range.1 in
     let eight = passed (tx_length_unfit s.set q.task) 8 _ (omega arith) seven.1 in
     let twelve = passed (leb 4 (length qs)) 12 _ (omega arith) eight.1 in
     let thirteen = passed (any_passes (has_token q.token) qs) 13 0 (omega arith) twelve.1 in
@@ -203,7 +204,7 @@ pub withdraw_keeps : (s : State) (qs : List Request) (b : LineBook) (pool : List
 unfolding withdraw_refusal is_named
 withdraw_keeps s qs b pool token K z =
     let thirteen = passed (not (any_passes (has_token token) qs) || (outbound_open s.wait && is_token token (earliest_of is_tx qs))) 13 0 (omega arith) z in
-    let other = (neither (not (any_passes (has_token token) qs)) _ thirteen.0).1 in
+    let other = (or_parts (not (any_passes (has_token token) qs)) _ thirteen.0).1 in
     let line = K.line in
     let not_named : (b.outbound && is_token token (earliest_of is_tx (requests_in b.waiting))) ≡ false = rw K.outbound (rw line at other) in
     record {
@@ -221,10 +222,6 @@ withdraw_keeps s qs b pool token K z =
     }
 
 -- ---- A request leaves
-
-pub count_append : (x : ℕ) (l m : List ℕ) → count x (l ++ m) ≡ count x l + count x m
-count_append x [] m = omega arith
-count_append x (y ∷ l) m = omega (arith, count_append x l m)
 
 tokens_append : (es fs : List Entry) → tokens (es ++ fs) ≡ tokens es ++ tokens fs
 tokens_append [] fs = refl

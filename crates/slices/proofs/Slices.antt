@@ -2,8 +2,7 @@
 -- Assumes nothing.
 use Rattle.refusals.specs.declared.Refusal.{Refusal}
 use Rattle.refusals.specs.Refusals.{number_of}
-use Rattle.slices.specs.Inner.{or_slices}
-use Rattle.std.specs.Prelude.{Ok, Err}
+use Rattle.std.specs.Prelude.{Ok, Err, ok_or}
 use Rattle.std.proofs.Common.{Option, Some, None, ℕ, arith}
 use Prim.Native.Nat.{ℕ}
 use mathlib.Core.Path.{◌≡◌, refl, sym, ◌∙◌, ap}
@@ -16,11 +15,11 @@ use Rattle.util.specs.Bytes.{stored_over}
 use Rattle.util.proofs.Stores.{over}
 use Rattle.engine.specs.Step.{Outcome}
 use Rattle.state_bytes.specs.Layout.{state_at, written_state}
-use Rattle.state_bytes.specs.Valid.{holds_state, decoded_of, decoded_refusal, Decodes}
+use Rattle.state_bytes.specs.Valid.{holds_state, decoded_of, decoded_refusal}
 use Rattle.state_bytes.proofs.Same.{and_left, and_right}
 use Rattle.reply_bytes.specs.Reply.{written_reply}
 use Rattle.slices.specs.Slices.{slices_fit, form_ok, if_accepted}
-use Rattle.slices.specs.Inner.{read_of, ReadAs, Finished}
+use Rattle.slices.specs.Inner.{read_of, Finished}
 use Rattle.slices.proofs.Lengths.{state_length, reply_length}
 use Rattle.tasks.specs.declared.State.{State}
 
@@ -72,24 +71,17 @@ pub form_lengths : (st : List ℕ) (n : ℕ) → form_ok st n ≡ true → slice
 unfolding form_ok
 form_lengths st n h = and_left (slices_fit (length st) n) (holds_state st) h
 
-module _ (st : List ℕ) (n : ℕ) {fit : Bool} (e : fit ≡ slices_fit (length st) n) where
-  pub read_decoded : (r : Option State) → Decodes st r → fit ≡ true → ReadAs st n (or_slices r)
-  unfolding read_of form_ok decoded_refusal
-  read_decoded r D t = let h = sym e ∙ t in record { case = rw h (ap or_slices D.case); refusal = number_of_or r ∙ rw h D.refusal }
-    where
-      number_of_or : (r : Option State) → number_of (or_slices r) ≡ decoded_refusal r
-      number_of_or (Some s) = refl
-      number_of_or None = refl
-
-  pub read_not : fit ≡ false → ReadAs st n (Err Refusal.Slices)
-  unfolding read_of form_ok
-  read_not t = let h = sym e ∙ t in record { case = rw h; refusal = rw h }
+-- the number of a decoded state, or of the refusal of bytes that are those of none
+pub number_of_or : (o : Option State) → number_of (ok_or o Refusal.Slices) ≡ decoded_refusal o
+unfolding decoded_refusal
+number_of_or (Some s) = refl
+number_of_or None = refl
 
 -- what a read state, and a refusal, say of the bytes
-pub read_ok : (o : Option State) {s : State} → Ok s ≡ or_slices o → o ≡ Some s
+pub read_ok : (o : Option State) {s : State} → Ok s ≡ ok_or o Refusal.Slices → o ≡ Some s
 read_ok (Some t) e = cc
 read_ok None e = absurd (let z : ◌≡◌ {A = ℕ} 0 1 = cc in omega arith)
 
-pub read_err : (o : Option State) {refusal : Refusal} → Err refusal ≡ or_slices o → (o ≡ None) × (refusal ≡ Refusal.Slices)
+pub read_err : (o : Option State) {refusal : Refusal} → Err refusal ≡ ok_or o Refusal.Slices → (o ≡ None) × (refusal ≡ Refusal.Slices)
 read_err (Some t) e = absurd (let z : ◌≡◌ {A = ℕ} 0 1 = cc in omega arith)
 read_err None e = (refl, cc)

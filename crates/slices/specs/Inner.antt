@@ -1,6 +1,6 @@
 -- Definitions that only inner contracts and proofs cite: how the slices are read and written.
 -- Assumes nothing.
-use Rattle.std.specs.Prelude.{ℕ, ◌≡◌, cond, List, length, Option, Some, None, Result, Ok, Err}
+use Rattle.std.specs.Prelude.{ℕ, ◌≡◌, cond, List, length, Option, None, Result, ok_or}
 use Rattle.refusals.specs.declared.Refusal.{Refusal}
 use Rattle.refusals.specs.Refusals.{number_of}
 use Rattle.engine.specs.Step.{Outcome}
@@ -15,14 +15,9 @@ use Rattle.tasks.specs.declared.State.{State}
 unfoldable pub read_of : List ℕ → ℕ → Option State
 read_of st reply = cond (slices_fit (length st) reply) (decoded_of st) None
 
--- a state that is there, or refusal 1
-abbrev pub or_slices : Option State → Result State Refusal
-or_slices (Some s) = Ok s
-or_slices None = Err Refusal.Slices
-
 -- what read answers: the case, and document 01's number for it
 pub record ReadAs (st : List ℕ) (reply : ℕ) (r : Result State Refusal) : Type 0 where
-  pub case : r ≡ or_slices (read_of st reply)
+  pub case : r ≡ ok_or (read_of st reply) Refusal.Slices
   pub refusal : number_of r ≡ cond (form_ok st reply) 0 1
 
 -- what is written for an outcome

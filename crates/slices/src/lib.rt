@@ -19,16 +19,14 @@ pub fn slices_fit(state: usize, reply: usize) -> bool
 }
 
 // The state that the slice holds, unless a length is wrong.
+#[tactic(auto, using(crate::proofs::Slices::number_of_or), unfolding(crate::specs::Inner::read_of, crate::specs::Slices::form_ok))]
 pub fn read(state: &[u8], reply: usize) -> Result<State, Refusal>
     ensures { ReadAs state.now reply result }
 {
     if !slices_fit(state.len(), reply) {
         return Err(Refusal::Slices);
     }
-    match state_bytes::decode(state) {
-        Some(s) => Ok(s),
-        None => Err(Refusal::Slices),
-    }
+    state_bytes::decode(state).ok_or(Refusal::Slices)
 }
 
 // Writes state and reply of an accepted outcome.

@@ -3,7 +3,7 @@
 
 ghost use Rattle.std.specs.Prelude.{◌<◌, ◌≡◌};
 ghost use Rattle.state_bytes.specs.Layout.{settings_at, task_at, parts_at, state_at, written_task, written_parts, written_state};
-ghost use Rattle.state_bytes.specs.Valid.{slot_fits, differs_from, slots_differ, valid_state, same_list, Decodes};
+ghost use Rattle.state_bytes.specs.Valid.{slot_fits, slots_differ, valid_state, same_list, Decodes};
 
 use radio_frame::Settings;
 use tasks::{Pending, Slot, State, TxTask};
@@ -135,19 +135,15 @@ fn slot_fits(set: Settings, slot: Option<Slot>) -> bool
     })
 }
 
-#[tactic(auto, unfolding(crate::specs::Valid::differs_from))]
-fn differs_from(token: u32, buffer: u8, slot: Option<Slot>) -> bool
-    ensures { result ≡ differs_from token buffer slot }
-{
-    slot.is_none_or(|h| token != h.token && buffer != h.buffer)
-}
-
 // Two requests have different tokens and buffers.
-#[tactic(auto, unfolding(crate::specs::Valid::slots_differ))]
+#[tactic(auto, unfolding(crate::specs::Valid::slots_differ, crate::specs::Valid::differs_from))]
 fn slots_differ(p: Pending) -> bool
     ensures { result ≡ slots_differ p.second p.first }
 {
-    p.first.is_none_or(|h| differs_from(h.token, h.buffer, p.second))
+    match (p.first, p.second) {
+        (Some(a), Some(b)) => a.token != b.token && a.buffer != b.buffer,
+        _ => true,
+    }
 }
 
 #[tactic(auto, unfolding(crate::specs::Valid::valid_state))]

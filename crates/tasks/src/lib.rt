@@ -252,7 +252,7 @@ pub struct Slot {
     pub buffer: u8,
 }
 
-// One From for each kind of request, as the language has it.
+// A Slot within both kinds would say this once, but put a name more into each use of their token and buffer.
 impl From<TxTask> for Slot {
     ghost from_gives = { λ tx r. r ≡ tx_holds tx };
 
@@ -287,10 +287,9 @@ fn left_slot(l: Left) -> Option<Slot>
     ensures { result ≡ left_slot l }
 {
     match l {
-        Left::Off => None,
+        Left::Off | Left::SendingAck => None,
         Left::Receiving(q) => Some(q.into()),
         Left::Sending(q) => Some(q.into()),
-        Left::SendingAck => None,
         Left::ReceivingAck(a) => Some(a.task.into()),
     }
 }
@@ -311,12 +310,9 @@ fn asked_slot(a: Asked) -> Option<Slot>
     ensures { result ≡ asked_slot a }
 {
     match a {
-        Asked::Idle => None,
-        Asked::AfterWindow(q) => Some(q.into()),
-        Asked::AfterAckWindow(q, _) => Some(q.into()),
-        Asked::Receiving(q, _) => Some(q.into()),
-        Asked::Sending(q) => Some(q.into()),
-        Asked::SendingAck(_) => None,
+        Asked::Idle | Asked::SendingAck(_) => None,
+        Asked::AfterWindow(q) | Asked::Receiving(q, _) => Some(q.into()),
+        Asked::AfterAckWindow(q, _) | Asked::Sending(q) => Some(q.into()),
         Asked::ReceivingAck(b) => Some(b.task.into()),
     }
 }
@@ -326,10 +322,8 @@ fn stop_slot(p: Stop) -> Option<Slot>
     ensures { result ≡ stop_slot p }
 {
     match p {
-        Stop::Frame(q) => Some(q.into()),
-        Stop::Outbound(q) => Some(q.into()),
-        Stop::Ack(a) => Some(a.task.into()),
-        Stop::AckAgain(a) => Some(a.task.into()),
+        Stop::Frame(q) | Stop::Outbound(q) => Some(q.into()),
+        Stop::Ack(a) | Stop::AckAgain(a) => Some(a.task.into()),
     }
 }
 
@@ -342,11 +336,7 @@ fn transition_slots(e: Transition) -> Pending
             first: left_slot(l),
             second: next_slot(n),
         },
-        Transition::Rearm(q) => Pending {
-            first: Some(q.into()),
-            second: None,
-        },
-        Transition::AckTurn(q, _) => Pending {
+        Transition::Rearm(q) | Transition::AckTurn(q, _) => Pending {
             first: Some(q.into()),
             second: None,
         },
@@ -368,15 +358,11 @@ pub fn pending_requests(w: Wait) -> Pending
             second: None,
         },
         Wait::Entering(e) => transition_slots(e),
-        Wait::Listening(q) => Pending {
-            first: Some(q.into()),
-            second: None,
-        },
         Wait::Stopping(p) => Pending {
             first: stop_slot(p),
             second: None,
         },
-        Wait::Reading(q) => Pending {
+        Wait::Listening(q) | Wait::Reading(q) => Pending {
             first: Some(q.into()),
             second: None,
         },
@@ -399,12 +385,14 @@ impl Slot {
 }
 
 // What is owed, as the answers of a call.
-#[tactic(auto, unfolding(crate::specs::Answers::answers_of))]
-pub fn answers_of(o: Option<Answer>) -> Answers
-    ensures { result ≡ answers_of o }
-{
-    match o {
-        None => Answers::None,
-        Some(a) => Answers::One(a),
+impl From<Option<Answer>> for Answers {
+    ghost from_gives = { λ owed r. r ≡ answers_of owed };
+
+    #[tactic(auto, unfolding(crate::specs::Answers::answers_of))]
+    fn from(owed: Option<Answer>) -> Answers {
+        match owed {
+            None => Answers::None,
+            Some(a) => Answers::One(a),
+        }
     }
 }

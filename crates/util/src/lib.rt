@@ -11,7 +11,7 @@ pub fn byte_at(s: &[u8], at: usize) -> u8
     s.get(at).copied().unwrap_or(0)
 }
 
-// Writes a byte at a place, and nothing past the end. A test, since the clause of `get_mut` says nothing of the slice at `None`.
+// Writes a byte at a place, and nothing past the end. A test, since the clause of `get_mut` does not say that the other bytes stay.
 #[tactic(auto, using(std::proofs::lemmas::List::set_past))]
 pub fn put(s: &mut [u8], at: usize, v: u8)
     ensures { s.new ≡ set s.old at v }
@@ -41,7 +41,7 @@ pub fn part(s: &[u8], at: usize, n: usize) -> &[u8]
 
 // The N bytes from a place on; a byte past the end reads as 0. (Header's function of this name gives none where one is missing.)
 #[tactic(auto, using(crate::proofs::Numbers::from_place))]
-fn bytes_at<const N: usize>(s: &[u8], at: usize) -> [u8; N]
+pub fn bytes_at<const N: usize>(s: &[u8], at: usize) -> [u8; N]
     ensures { number_at result 0 N ≡ number_at s.now at N }
 {
     let found = part(s, at, N);
@@ -72,7 +72,8 @@ pub fn u64_at(bytes: &[u8], at: usize) -> u64
     u64::from_le_bytes(bytes_at(bytes, at))
 }
 
-// The bytes of a number, the low one first: std's method of each width, by the name that the layouts give what it writes.
+// The bytes of a number, the low one first: std's method of each width, with the layouts' clause, which its callers would each have to
+// derive from std's.
 pub fn bytes_of_u16(v: u16) -> [u8; 2]
     ensures { result ≡ bytes_of 2 v }
 {

@@ -207,6 +207,7 @@ pub fn wait_parts(w: Wait) -> Parts
 // ---- Numbers as a wait; a code that stands for nothing is read as the last of its table
 // The request is read before the match: read in each arm, it costs 51 instructions of the 1,426 of an exported call.
 
+// No From<u8> for Ifs: phy knows no code that stands for nothing. That it is read as the last one is this layout's rule.
 #[tactic(auto, unfolding(crate::specs::Parts::ifs_at))]
 fn ifs_at(code: u8) -> Ifs
     ensures { result ≡ ifs_at code }

@@ -1,12 +1,12 @@
 -- Facts on the line as a list and on runs of records, and the laws that specs/Line.antt states.
 -- Assumes nothing.
-use Rattle.std.proofs.Common.{ℕ, zero, suc, ◌≡◌, ◌+◌, ◌<◌, ◌≤◌, Bool, true, false, cond, not, List, [], ◌∷◌, ◌++◌, length, take, get_or, leb, refl, None, Some, Option, append-nil, ap, ◌∙◌, arith}
-use Rattle.std.specs.Prelude.{remove, position, find, slice_get}
+use Rattle.std.proofs.Common.{ℕ, zero, suc, ◌≡◌, ◌+◌, ◌<◌, ◌≤◌, Bool, true, false, cond, not, List, [], ◌∷◌, ◌++◌, length, take, get_or, leb, refl, None, Some, append-nil, add-one, length-set, ap, sym, ◌∙◌, arith}
+use Rattle.std.specs.Prelude.{remove, position, find, slice_get, slice_set}
 use Rattle.std.specs.List.{position_or_len}
 use Rattle.std.specs.Set.{remove_key}
 use Rattle.std.proofs.lemmas.Grind.{common_steps}
 use Rattle.std.proofs.lemmas.Option.{slice_get_past}
-use Rattle.std.proofs.lemmas.List.{take_all}
+use Rattle.std.proofs.lemmas.List.{take_all, take_more, take_more_set}
 use Rattle.std.proofs.lemmas.List.Folds.{find_at}
 use Rattle.tasks.specs.declared.Request.{Request}
 use Rattle.tasks.specs.declared.Starts.{Starts}
@@ -14,7 +14,7 @@ use Rattle.tasks.specs.declared.Task.{Task}
 use Rattle.requests.specs.Requests.{allow, start_allowed, not_allowed}
 use Rattle.waiting_line.specs.declared.Place.{Place}
 use Rattle.waiting_line.specs.declared.RequestRecord.{RequestRecord}
-use Rattle.waiting_line.specs.Line.{waits_at, waiting, records, is_transmit, RecordsKeepLine, TxExactly}
+use Rattle.waiting_line.specs.Line.{waits_at, waiting, records, place_for, is_transmit, RecordsKeepLine, TxExactly}
 
 -- ---- The first that passes a test, by its place
 
@@ -41,13 +41,17 @@ module _ {X : Type 0} (p : X → Bool) where
       go true rest e = cc
       go false rest e = ap (λ ys. x ∷ ys) (rest e)
 
-  pub first_at : (xs : List X) (i : ℕ) → position p xs ≡ Some i → (slice_get xs i ≡ find p xs) × (remove xs i ≡ remove_key p xs)
-  first_at xs i e = (grind (arith, common_steps, find_at p xs), grind (arith, common_steps, removed_at xs))
+  pub first_found : (xs : List X) (i : ℕ) → position p xs ≡ Some i → slice_get xs i ≡ find p xs
+  first_found xs i e = grind (arith, common_steps, find_at p xs)
 
-  pub no_first : (xs : List X) → position p xs ≡ None → (find p xs ≡ None) × (remove_key p xs ≡ xs)
-  no_first xs e =
-      let none = find_at p xs ∙ slice_get_past xs _ (grind (arith, common_steps)) in
-      (none, none_leaves xs none)
+  pub first_leaves : (xs : List X) (i : ℕ) → position p xs ≡ Some i → remove xs i ≡ remove_key p xs
+  first_leaves xs i e = grind (arith, common_steps, removed_at xs)
+
+  pub none_found : (xs : List X) → position p xs ≡ None → find p xs ≡ None
+  none_found xs e = find_at p xs ∙ slice_get_past xs _ (grind (arith, common_steps))
+
+  pub no_place : (xs : List X) → position p xs ≡ None → remove_key p xs ≡ xs
+  no_place xs e = none_leaves xs (none_found xs e)
 
 -- ---- Runs of records
 
@@ -77,8 +81,9 @@ four_more (a ∷ b ∷ c ∷ []) (Place.Waits q) = refl
 four_more (a ∷ b ∷ c ∷ d ∷ qs) (Place.Waits q) = refl
 
 pub placed_more : (rs : List RequestRecord) (i : ℕ) (d : RequestRecord) → i < length rs
-    → take 4 (waiting (take (suc i) rs)) ≡ with_place (take 4 (waiting (take i rs))) (get_or rs i d).place
-placed_more rs i d h = ap (take 4) (waiting_more rs i d h) ∙ four_more (waiting (take i rs)) (get_or rs i d).place
+    → with_place (take 4 (waiting (take i rs))) (get_or rs i d).place ≡ take 4 (waiting (take (i + 1) rs))
+placed_more rs i d h =
+    sym (rw add-one (ap (take 4) (waiting_more rs i d h) ∙ four_more (waiting (take i rs)) (get_or rs i d).place))
 
 length-waiting : (rs : List RequestRecord) → length (waiting rs) ≤ length rs
 length-waiting [] = omega arith
@@ -92,15 +97,10 @@ length-waiting (r ∷ rs) = go r.place (length-waiting rs)
 pub all_waiting : (rs : List RequestRecord) → length rs ≤ 4 → take 4 (waiting rs) ≡ waiting rs
 all_waiting rs h = take_all 4 (waiting rs) (omega (arith, length-waiting rs))
 
-pub length-records : (n : ℕ) (qs : List Request) → length (records n qs) ≡ n
-length-records zero qs = refl
-length-records (suc n) [] = ap (λ m. suc m) (length-records n [])
-length-records (suc n) (q ∷ qs) = ap (λ m. suc m) (length-records n qs)
-
--- the place of a run where the i-th of a line stands
-abbrev pub place_for : Option Request → Place
-place_for None = Place.Free
-place_for (Some q) = Place.Waits q
+pub length_records : (n : ℕ) (qs : List Request) → length (records n qs) ≡ n
+length_records zero qs = refl
+length_records (suc n) [] = ap (λ m. suc m) (length_records n [])
+length_records (suc n) (q ∷ qs) = ap (λ m. suc m) (length_records n qs)
 
 pub record_at : (n : ℕ) (qs : List Request) (i : ℕ) (d : RequestRecord) → i < n → get_or (records n qs) i d ≡ record { place = place_for (slice_get qs i) }
 record_at zero qs i d h = absurd (omega arith)
@@ -108,6 +108,14 @@ record_at (suc n) [] zero d h = refl
 record_at (suc n) [] (suc i) d h = record_at n [] i d (omega arith)
 record_at (suc n) (q ∷ qs) zero d h = refl
 record_at (suc n) (q ∷ qs) (suc i) d h = record_at n qs i d (omega arith)
+
+-- one record more of a run that a line is written into
+pub record_more : (rs : List RequestRecord) (qs : List Request) (i : ℕ) (r : RequestRecord) → i < length rs
+    → take i rs ≡ take i (records (length rs) qs) → r.place ≡ place_for (slice_get qs i)
+    → take (i + 1) (records (length (slice_set rs i r)) qs) ≡ take (i + 1) (slice_set rs i r)
+record_more rs qs i r h before e =
+    let last = record_at (length rs) qs i r h in
+    sym (rw (length-set, take_more_set rs i r h, take_more (records (length rs) qs) i r (rw length_records h), last, before, ← e))
 
 -- ---- The laws
 

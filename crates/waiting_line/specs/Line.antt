@@ -30,6 +30,11 @@ records zero qs = []
 records (suc n) [] = record { place = Place.Free } ∷ records n []
 records (suc n) (q ∷ qs) = record { place = Place.Waits q } ∷ records n qs
 
+-- the place of a run where the i-th of a line stands
+abbrev pub place_for : Option Request → Place
+place_for None = Place.Free
+place_for (Some q) = Place.Waits q
+
 -- ---- Tests of a request
 
 -- "whose direction and start the wait allows"

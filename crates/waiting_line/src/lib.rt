@@ -2,7 +2,7 @@
 #![tactic(auto)]
 
 ghost use Rattle.std.specs.Prelude.{◌≡◌, ◌<◌, ◌≤◌, [], ◌∷◌, ◌++◌, cond, length, leb, take, slice_get, remove, position, option_copied};
-ghost use Rattle.waiting_line.specs.Line.{waiting, records, allows, has_token, has_buffer, is_tx, any_passes, earliest_of, without_earliest, names_tx, is_token};
+ghost use Rattle.waiting_line.specs.Line.{waiting, records, place_for, allows, has_token, has_buffer, is_tx, any_passes, earliest_of, without_earliest, names_tx, is_token};
 
 use std::marker::Model;
 use tasks::{Allowed, Request, Starts, Task, Timestamp};
@@ -112,6 +112,7 @@ impl Line {
     }
 
     // The earliest arrival that is allowed leaves.
+    #[tactic(auto, using(crate::proofs::Laws::first_found, crate::proofs::Laws::first_leaves, crate::proofs::Laws::none_found, crate::proofs::Laws::no_place))]
     pub fn take(&mut self, w: Allowed) -> Option<Request>
         ensures value { result ≡ earliest_of (allows w) self.old }
         ensures rest { self.new ≡ without_earliest (allows w) self.old }
@@ -121,6 +122,7 @@ impl Line {
     }
 
     // The request that has the token leaves.
+    #[tactic(auto, using(crate::proofs::Laws::first_leaves, crate::proofs::Laws::no_place))]
     pub fn withdraw(&mut self, token: u32)
         ensures { self.new ≡ without_earliest (has_token token) self.old }
     {
@@ -157,6 +159,7 @@ impl Line {
     }
 
     // What waits in a run of records, in their order; at most four of these requests.
+    #[tactic(auto, using(crate::proofs::Laws::placed_more))]
     pub fn from_run(run: &[RequestRecord]) -> Line
         ensures { result ≡ take 4 (waiting run.now) }
     {
@@ -169,15 +172,23 @@ impl Line {
         line
     }
 
+    // What stands at a place of a run that the line is written into.
+    fn place(&self, i: usize) -> Place
+        ensures { result ≡ place_for (slice_get self.now i) }
+    {
+        match self.requests().get(i) {
+            Some(q) => Place::Waits(*q),
+            None => Place::Free,
+        }
+    }
+
     // Writes the line into a run of records: its requests in front, the places after them free.
+    #[tactic(auto, using(crate::proofs::Laws::record_more, crate::proofs::Laws::length_records, std::proofs::lemmas::List::take_all))]
     pub fn write_run(&self, run: &mut [RequestRecord])
         ensures { run.new ≡ records (length run.old) self.now }
     {
         for (i, r) in run.iter_mut().enumerate() {
-            r.place = match self.requests().get(i) {
-                Some(q) => Place::Waits(*q),
-                None => Place::Free,
-            };
+            r.place = self.place(i);
         }
     }
 }

@@ -1,8 +1,9 @@
 -- `driver::step` meets its contract: the outcome is the move's, the pool has the number that it writes, and the theorems on
 -- every call hold of them.
 -- Assumes nothing.
+-- By the search, with `stepped` named on the function, it did not close: the promise is a record, as in start.
 use Rattle.std.proofs.Common.{◌≡◌, ◌∙◌, ap}
-use Rattle.std.proofs.lemmas.Result.{err_from_is_err_and}
+use Rattle.refusals.proofs.Refusals.{handed_on}
 use Rattle.moves.specs.Move.{Move}
 use Rattle.engine.specs.Step.{outcome_of, written_by, step_of, step_pool}
 use Rattle.driver.proofs.Promises.{stepped}
@@ -12,8 +13,7 @@ pub returns-in_err-m : goal.returns-in_err-m
 unfolding step_of step_pool written_by
 returns-in_err-m c =
     let a = c.args in
-    let p = err_from_is_err_and c.from_residual.result c.from_residual.ensures.1 in
-    rw (p.1, p.2)
+    rw (handed_on _ c.from_residual.ensures.1)
     (stepped a.s a.pool.now a.c _ _
     (ap outcome_of c.in_err-m.ensures)
     (ap (λ (m : Move). written_by a.s.set a.pool.now m.number) c.in_err-m.ensures))

@@ -3,10 +3,11 @@
 -- Assumes nothing.
 use mathlib.Core.Path.{◌≡◌}
 use mathlib.Core.List.{[], ◌∷◌}
-use Prim.Native.Nat.{◌+◌, ◌-◌, ◌^◌, ◌<◌}
-use Rattle.fcs.specs.Fcs.{divide, bits_of, number_of, fcs_of}
+use Prim.Native.Nat.{◌-◌, ◌^◌, ◌<◌}
+use Rattle.fcs.specs.Fcs.{fcs_of}
+use Rattle.fcs.proofs.Entry.{left_after}
 use Rattle.fcs.proofs.entry_by_bits.Given as goal
 
 abbrev pub invariant-loop : goal.invariant-loop
 invariant-loop l =
-    (l.register < 2 ^ 16) × (number_of (divide (8 - l.counter) (bits_of (8 - l.counter + 16) l.register)) ≡ fcs_of (l.byte ∷ []))
+    (l.register < 2 ^ 16) × (left_after (8 - l.counter) l.register ≡ fcs_of (l.byte ∷ []))

@@ -3,13 +3,13 @@
 
 ghost use Rattle.std.specs.Prelude.{◌≡◌};
 ghost use Rattle.moves.specs.Move.{told};
-ghost use Rattle.entering.specs.Entering.{then_error, request_fell_back, fell_back_of, off_rolled_back, request_rolled_back, rolled_back_of, entering_of};
+ghost use Rattle.entering.specs.Entering.{then_error, fell_back_of, rolled_back_of, entering_of};
 
 use moves::Accepted;
 use refusals::Refusal;
 use tasks::{
-    Answer, Answers, Call, Cause, Left, Next, Response, RxTask, Slot, State, TaskResult, Transition,
-    TxTask,
+    Answer, Answers, Call, Cause, Left, Next, Response, RxTask, Slot, State, TaskResult,
+    Transition, TxTask,
 };
 
 // The answer that leaving owes, if any, then the error of the request that could not be entered.
@@ -24,49 +24,8 @@ fn then_error(owed: Option<Answer>, q: TxTask, cause: Cause) -> Answers
     }
 }
 
-#[tactic(auto, unfolding(crate::specs::Entering::request_fell_back, moves::specs::Move::guarded_of))]
-fn request_fell_back(
-    s: State,
-    pool: &[u8],
-    l: Left,
-    n: Next,
-    x: TaskResult,
-    cause: Cause,
-) -> Result<Accepted, Refusal>
-    ensures { told s result ≡ request_fell_back s pool.now l x cause n }
-{
-    match n {
-        Next::Tx(q, _) => {
-            let owed = results::leave_task(s.set, pool, l, x)?;
-            Ok(moves::to_idle(s.set, then_error(owed, q, cause)))
-        }
-        Next::Rx(_) => Err(Refusal::Unfit),
-        Next::Off => Err(Refusal::Unfit),
-    }
-}
-
-// Rollback is on where a reception goes off.
-#[tactic(auto, unfolding(crate::specs::Entering::off_rolled_back))]
-fn off_rolled_back(s: State, q: RxTask, n: Next) -> Result<Accepted, Refusal>
-    ensures { told s result ≡ off_rolled_back s q n }
-{
-    match n {
-        Next::Off => Ok(moves::listen(s.set, q, Answers::None)),
-        _ => Err(Refusal::Unfit),
-    }
-}
-
-#[tactic(auto, unfolding(crate::specs::Entering::request_rolled_back))]
-fn request_rolled_back(s: State, l: Left, n: Next) -> Result<Accepted, Refusal>
-    ensures { told s result ≡ request_rolled_back s n l }
-{
-    match l {
-        Left::Receiving(q) => off_rolled_back(s, q, n),
-        _ => Err(Refusal::Unfit),
-    }
-}
-
-#[tactic(auto, unfolding(crate::specs::Entering::fell_back_of))]
+// Fallback fits with a Tx only.
+#[tactic(auto, unfolding(crate::specs::Entering::fell_back_of, crate::specs::Entering::request_fell_back, moves::specs::Move::guarded_of))]
 fn fell_back(
     s: State,
     pool: &[u8],
@@ -76,19 +35,22 @@ fn fell_back(
 ) -> Result<Accepted, Refusal>
     ensures { told s result ≡ fell_back_of s pool.now x cause e }
 {
-    match e {
-        Transition::Request(l, n) => request_fell_back(s, pool, l, n, x, cause),
-        _ => Err(Refusal::Unfit),
-    }
+    let Transition::Request(l, Next::Tx(q, _)) = e else {
+        return Err(Refusal::Unfit);
+    };
+    let owed = results::leave_task(s.set, pool, l, x)?;
+    Ok(moves::to_idle(s.set, then_error(owed, q, cause)))
 }
 
-#[tactic(auto, unfolding(crate::specs::Entering::rolled_back_of))]
+// Rollback is on where a reception goes off, and in an ACK turn.
+#[tactic(auto, unfolding(crate::specs::Entering::rolled_back_of, crate::specs::Entering::request_rolled_back, crate::specs::Entering::off_rolled_back))]
 fn rolled_back(s: State, e: Transition) -> Result<Accepted, Refusal>
     ensures { told s result ≡ rolled_back_of s e }
 {
     match e {
-        Transition::Request(l, n) => request_rolled_back(s, l, n),
-        Transition::AckTurn(q, _) => Ok(moves::listen(s.set, q, Answers::None)),
+        Transition::Request(Left::Receiving(q), Next::Off) | Transition::AckTurn(q, _) => {
+            Ok(moves::listen(s.set, q, Answers::None))
+        }
         _ => Err(Refusal::Unfit),
     }
 }

@@ -3,11 +3,11 @@
 
 ghost use Rattle.std.specs.Prelude.{◌≡◌};
 ghost use Rattle.refusals.specs.Refusals.{number_of};
-ghost use Rattle.results.specs.Results.{received_unfit, received_refusal, leave_off, leave_receiving, leave_sending, leave_sending_ack, ack_response, ack_received, leave_receiving_ack, leave_of, Leaves};
+ghost use Rattle.results.specs.Results.{received_unfit, received_refusal, leave_receiving, ack_response, ack_received, leave_of, Leaves};
 
 use radio_frame::Settings;
 use refusals::Refusal;
-use tasks::{Answer, AwaitedAck, Left, Response, RxResult, RxTask, Slot, TaskResult, TxTask};
+use tasks::{Answer, AwaitedAck, Left, Response, RxResult, RxTask, Slot, TaskResult};
 
 // Whether a received length is refused.
 #[tactic(auto, unfolding(crate::specs::Results::received_unfit))]
@@ -31,16 +31,6 @@ pub fn check_received(set: Settings, r: RxResult) -> Result<(), Refusal>
     Ok(())
 }
 
-#[tactic(auto, unfolding(crate::specs::Results::leave_off))]
-fn leave_off(r: TaskResult) -> Result<Option<Answer>, Refusal>
-    ensures { Leaves (leave_off r) result }
-{
-    match r {
-        TaskResult::Off => Ok(None),
-        _ => Err(Refusal::Unfit),
-    }
-}
-
 // Leaving a reception: the receive result is the answer.
 #[tactic(auto, unfolding(crate::specs::Results::leave_receiving))]
 pub fn leave_receiving(set: Settings, q: RxTask, r: TaskResult) -> Result<Option<Answer>, Refusal>
@@ -51,26 +41,6 @@ pub fn leave_receiving(set: Settings, q: RxTask, r: TaskResult) -> Result<Option
             check_received(set, x)?;
             Ok(Some(Slot::from(q).answer(Response::Received(x))))
         }
-        _ => Err(Refusal::Unfit),
-    }
-}
-
-#[tactic(auto, unfolding(crate::specs::Results::leave_sending))]
-fn leave_sending(q: TxTask, r: TaskResult) -> Result<Option<Answer>, Refusal>
-    ensures { Leaves (leave_sending q r) result }
-{
-    match r {
-        TaskResult::Sent(t) => Ok(Some(Slot::from(q).answer(Response::Sent(t)))),
-        _ => Err(Refusal::Unfit),
-    }
-}
-
-#[tactic(auto, unfolding(crate::specs::Results::leave_sending_ack))]
-fn leave_sending_ack(r: TaskResult) -> Result<Option<Answer>, Refusal>
-    ensures { Leaves (leave_sending_ack r) result }
-{
-    match r {
-        TaskResult::Sent(_) => Ok(None),
         _ => Err(Refusal::Unfit),
     }
 }
@@ -108,23 +78,8 @@ fn ack_received(
     }
 }
 
-#[tactic(auto, unfolding(crate::specs::Results::leave_receiving_ack))]
-fn leave_receiving_ack(
-    set: Settings,
-    pool: &[u8],
-    a: AwaitedAck,
-    r: TaskResult,
-) -> Result<Option<Answer>, Refusal>
-    ensures { Leaves (leave_receiving_ack set pool.now a r) result }
-{
-    match r {
-        TaskResult::Rx(x) => ack_received(set, pool, a, x),
-        _ => Err(Refusal::Unfit),
-    }
-}
-
 // Leaving a task with a result: the answer that is owed, if any; refusal 5 where the result is not one of that task's, or 10.
-#[tactic(auto, unfolding(crate::specs::Results::leave_of))]
+#[tactic(auto, unfolding(crate::specs::Results::leave_of, crate::specs::Results::leave_off, crate::specs::Results::leave_sending, crate::specs::Results::leave_sending_ack, crate::specs::Results::leave_receiving_ack))]
 pub fn leave_task(
     set: Settings,
     pool: &[u8],
@@ -133,11 +88,13 @@ pub fn leave_task(
 ) -> Result<Option<Answer>, Refusal>
     ensures { Leaves (leave_of set pool.now r l) result }
 {
-    match l {
-        Left::Off => leave_off(r),
-        Left::Receiving(q) => leave_receiving(set, q, r),
-        Left::Sending(q) => leave_sending(q, r),
-        Left::SendingAck => leave_sending_ack(r),
-        Left::ReceivingAck(a) => leave_receiving_ack(set, pool, a, r),
+    match (l, r) {
+        (Left::Off, TaskResult::Off) | (Left::SendingAck, TaskResult::Sent(_)) => Ok(None),
+        (Left::Receiving(q), _) => leave_receiving(set, q, r),
+        (Left::Sending(q), TaskResult::Sent(t)) => {
+            Ok(Some(Slot::from(q).answer(Response::Sent(t))))
+        }
+        (Left::ReceivingAck(a), TaskResult::Rx(x)) => ack_received(set, pool, a, x),
+        _ => Err(Refusal::Unfit),
     }
 }

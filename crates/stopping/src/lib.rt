@@ -3,7 +3,7 @@
 
 ghost use Rattle.std.specs.Prelude.{◌≡◌};
 ghost use Rattle.moves.specs.Move.{made, told};
-ghost use Rattle.stopping.specs.Stopping.{read_header, frame_stopped, ask_outbound, outbound_stopped, ack_failed, ack_stopped, stopped_of, stopping_of};
+ghost use Rattle.stopping.specs.Stopping.{read_header, ask_outbound, stopped_of, stopping_of};
 
 use moves::Accepted;
 use radio_frame::Settings;
@@ -19,16 +19,6 @@ fn read_header(set: Settings, q: RxTask) -> Accepted
     moves::accept(set, Wait::Reading(q), Action::ReadHeader, Answers::None)
 }
 
-#[tactic(auto, unfolding(crate::specs::Stopping::frame_stopped))]
-fn frame_stopped(s: State, q: RxTask, x: StopResult) -> Result<Accepted, Refusal>
-    ensures { told s result ≡ frame_stopped s q x }
-{
-    match x {
-        StopResult::FrameStarted => Ok(read_header(s.set, q)),
-        _ => Err(Refusal::Unfit),
-    }
-}
-
 fn ask_outbound(set: Settings, q: RxTask) -> Accepted
     ensures { made result ≡ ask_outbound set q }
 {
@@ -40,55 +30,32 @@ fn ask_outbound(set: Settings, q: RxTask) -> Accepted
     )
 }
 
-#[tactic(auto, unfolding(crate::specs::Stopping::outbound_stopped, moves::specs::Move::guarded_of))]
-fn outbound_stopped(s: State, q: RxTask, x: StopResult) -> Result<Accepted, Refusal>
-    ensures { told s result ≡ outbound_stopped s q x }
-{
-    match x {
-        StopResult::FrameStarted => Ok(read_header(s.set, q)),
-        StopResult::RxWindowEnded(y) => {
-            results::check_received(s.set, y)?;
-            Ok(ask_outbound(s.set, q))
-        }
-        StopResult::Failed => Ok(moves::listen(s.set, q, Answers::None)),
-    }
-}
-
 // A failure while listening for an awaited ACK: once it is stopped again without a time, a second time it does not fit.
-#[tactic(auto, unfolding(crate::specs::Stopping::ack_failed))]
-fn ack_failed(s: State, a: AwaitedAck, again: bool) -> Result<Accepted, Refusal>
-    ensures { told s result ≡ ack_failed s a again }
-{
-    if again {
-        return Err(Refusal::Unfit);
-    }
-    Ok(moves::stop(s.set, Stop::AckAgain(a), StopListening::Now))
-}
-
-// The end of listening for an awaited ACK.
-#[tactic(auto, unfolding(crate::specs::Stopping::ack_stopped, moves::specs::Move::guarded_of))]
-fn ack_stopped(s: State, a: AwaitedAck, again: bool, x: StopResult) -> Result<Accepted, Refusal>
-    ensures { told s result ≡ ack_stopped s a again x }
-{
-    match x {
-        StopResult::FrameStarted => Ok(moves::ask(s.set, Asked::ReceivingAck(a), Answers::None)),
-        StopResult::RxWindowEnded(w) => {
-            results::check_received(s.set, w)?;
-            Ok(moves::ask(s.set, Asked::AfterAckWindow(a.task, a.time), Answers::None))
-        }
-        StopResult::Failed => ack_failed(s, a, again),
-    }
-}
-
-#[tactic(auto, unfolding(crate::specs::Stopping::stopped_of))]
+// The result stands first: as (p, x) the borrow checker does not cover the match.
+#[tactic(auto, unfolding(crate::specs::Stopping::stopped_of, crate::specs::Stopping::frame_stopped, crate::specs::Stopping::outbound_stopped, crate::specs::Stopping::ack_stopped, crate::specs::Stopping::ack_failed, moves::specs::Move::guarded_of))]
 fn stopped(s: State, p: Stop, x: StopResult) -> Result<Accepted, Refusal>
     ensures { told s result ≡ stopped_of s x p }
 {
-    match p {
-        Stop::Frame(q) => frame_stopped(s, q, x),
-        Stop::Outbound(q) => outbound_stopped(s, q, x),
-        Stop::Ack(a) => ack_stopped(s, a, false, x),
-        Stop::AckAgain(a) => ack_stopped(s, a, true, x),
+    match (x, p) {
+        (StopResult::FrameStarted, Stop::Frame(q) | Stop::Outbound(q)) => {
+            Ok(read_header(s.set, q))
+        }
+        (StopResult::FrameStarted, Stop::Ack(a) | Stop::AckAgain(a)) => {
+            Ok(moves::ask(s.set, Asked::ReceivingAck(a), Answers::None))
+        }
+        (StopResult::RxWindowEnded(y), Stop::Outbound(q)) => {
+            results::check_received(s.set, y)?;
+            Ok(ask_outbound(s.set, q))
+        }
+        (StopResult::RxWindowEnded(w), Stop::Ack(a) | Stop::AckAgain(a)) => {
+            results::check_received(s.set, w)?;
+            Ok(moves::ask(s.set, Asked::AfterAckWindow(a.task, a.time), Answers::None))
+        }
+        (StopResult::Failed, Stop::Outbound(q)) => Ok(moves::listen(s.set, q, Answers::None)),
+        (StopResult::Failed, Stop::Ack(a)) => {
+            Ok(moves::stop(s.set, Stop::AckAgain(a), StopListening::Now))
+        }
+        (_, Stop::Frame(_)) | (StopResult::Failed, Stop::AckAgain(_)) => Err(Refusal::Unfit),
     }
 }
 

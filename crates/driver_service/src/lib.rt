@@ -192,9 +192,9 @@ pub fn start(set: Settings, line: &mut Line, pool: &mut [u8]) -> Result<(State, 
     Ok(idle)
 }
 
-// ---- The line as a lent run of records; another number of them than four is refused by 1. One function that takes `step` or `start`
-// as a closure over the line and the pool was tried for the last two: it proves, but its contract is longer than both bodies, since it
-// must name the references that the closure gets and leaves, and with it the clauses of the two that call it stayed open.
+// ---- The line as a lent run of records; another number of them than four is refused by 1. `step_on` and `start_on` have one form: an
+// inner function that takes `step` or `start` as a closure over line and pool was tried. It proved, but its contract, which must name what
+// the closure gets and what it leaves, is longer than both bodies, and with it the clauses of the two stayed open.
 
 fn lent_line(run: &[RequestRecord]) -> Result<Line, Refusal>
     ensures ok { IfOk result (λ line. (length run.now ≡ 4) × (line ≡ take 4 (waiting run.now))) }

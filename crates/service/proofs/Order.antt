@@ -4,7 +4,7 @@
 use Rattle.std.proofs.lemmas.Bool.{and_parts, false≢true}
 use Prim.Native.Nat.{ℕ, suc, ◌<◌}
 use mathlib.Core.Path.{◌≡◌, refl, sym, ◌∙◌, ap}
-use mathlib.Core.Bool.{Bool, true, false, cond, not, ◌&&◌, beq}
+use mathlib.Core.Bool.{Bool, true, false, cond, not, beq}
 use mathlib.Core.List.{List, [], ◌∷◌, ◌++◌}
 use native.Mathlib.Omega.{arith}
 use Rattle.tasks.specs.declared.Allowed.{Allowed}

@@ -2,7 +2,6 @@
 -- Assumes nothing.
 -- By the search, with `started` and `start_refused` named on the function, it did not close: the promise is a record, whose fields it
 -- takes one by one, and the lemma gives the whole.
-use Rattle.std.proofs.Common.{◌≡◌, ◌∙◌, ap}
 use Rattle.refusals.proofs.Refusals.{handed_on}
 use Rattle.driver.proofs.Promises.{started, start_refused}
 use Rattle.driver.proofs.start.Goals as goal

@@ -2,7 +2,7 @@
 -- every call hold of them.
 -- Assumes nothing.
 -- By the search, with `stepped` named on the function, it did not close: the promise is a record, as in start.
-use Rattle.std.proofs.Common.{◌≡◌, ◌∙◌, ap}
+use Rattle.std.proofs.Common.{◌∙◌, ap}
 use Rattle.refusals.proofs.Refusals.{handed_on}
 use Rattle.moves.specs.Move.{Move}
 use Rattle.engine.specs.Step.{outcome_of, written_by, step_of, step_pool}

@@ -1,7 +1,7 @@
 -- `exported::call` meets its contract.
 -- Assumes nothing.
 use Rattle.std.proofs.Common.{◌≡◌}
-use Rattle.std.proofs.lemmas.Result.{err_from_is_err_and}
+use Rattle.refusals.proofs.Refusals.{handed_on}
 use Rattle.slices.proofs.Slices.{read_ok, read_err}
 use Rattle.exported.proofs.Calls.{done, not_done}
 use Rattle.exported.proofs.call.Goals as goal
@@ -9,9 +9,8 @@ use Rattle.exported.proofs.call.Goals as goal
 pub returns-in_err-s : goal.returns-in_err-s
 returns-in_err-s c =
     let a = c.args in
-    let p = err_from_is_err_and c.from_residual.result c.from_residual.ensures.1 in
     let e = read_err _ c.in_err-s.ensures.case in
-    rw (p.1, p.2, e.1) (not_done a.state.now a.reply.now a.pool.now a.x e.0)
+    rw (handed_on _ c.from_residual.ensures.1, e.1) (not_done a.state.now a.reply.now a.pool.now a.x e.0)
 
 pub returns : goal.returns
 returns c =

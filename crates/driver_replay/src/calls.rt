@@ -1,4 +1,5 @@
-// A record as a call, or as settings. docs/REPLAY-FORMAT.md says what its columns are in each kind of record.
+// A record as a call, or as settings. docs/REPLAY-FORMAT.md says what its columns are in each kind of record; that format has letters for
+// the kinds, and stays.
 use crate::columns::Record;
 use radio_frame::Settings;
 use tasks::{Call, Cause, Request, RxResult, StopResult, Task, TaskResult, Timestamp};

@@ -9,24 +9,11 @@ mod replies;
 use columns::Record;
 use radio_frame::Settings;
 use refusals::Refusal;
-use std::array;
 use std::io::{self, ErrorKind};
 use tasks::{Asked, Call, Reply, State, Wait};
 
 // 33 buffers of 144 bytes: one more than the most that a start accepts.
 const POOL: usize = 4752;
-
-const NO_SETTINGS: Settings = Settings {
-    count: 0,
-    headroom: 0,
-    tailroom: 0,
-    fcs_length: 0,
-    hardware_addr: 0,
-    pan_id: 0,
-    implicit_broadcast: false,
-    ack_buffer: 0,
-    spare_buffer: 0,
-};
 
 // The state that the last call left, the pool, and how many bytes of it are lent. An array with a length beside it: the memory is fixed,
 // with no heap, and what is lent may be shorter than the pool.
@@ -38,11 +25,11 @@ struct Session {
 }
 
 impl Session {
-    // Before the first accepted start the settings are none that are accepted.
+    // Before the first accepted start the settings are none that are accepted, so that each call is refused by them, as it has to be.
     fn new() -> Session {
         Session {
             state: State {
-                set: NO_SETTINGS,
+                set: Settings::default(),
                 wait: Wait::Asking(Asked::Idle),
             },
             pool: [0; POOL],
@@ -53,11 +40,6 @@ impl Session {
     // The first bytes of the pool: so many, or all.
     fn lent(&mut self, length: usize) -> &mut [u8] {
         &mut self.pool[..length.min(POOL)]
-    }
-
-    // The bytes of the pool from a place on; past its end they are 0.
-    fn bytes_at<const N: usize>(&self, place: u32) -> [u8; N] {
-        array::from_fn(|i| util::byte_at(&self.pool, (place as usize).saturating_add(i)))
     }
 
     // A refused start leaves the session as it was.
@@ -101,11 +83,15 @@ impl Session {
             'l' => self.length = r.pool_length(),
             'w' => self.write(r),
             'z' => self.pool = [0; POOL],
-            'd' => replies::dump(rt, r.kind, r.a, &self.bytes_at::<48>(r.a))?,
+            'd' => {
+                let bytes = util::bytes_at::<48>(&self.pool, r.a as usize);
+                replies::dump(rt, r.kind, r.a, &bytes)?;
+            }
             'a' => {
                 let set = self.state.set;
                 let place = radio_frame::frame_start(set, set.ack_buffer);
-                replies::dump(rt, r.kind, place, &self.bytes_at::<3>(place))?;
+                let bytes = util::bytes_at::<3>(&self.pool, place as usize);
+                replies::dump(rt, r.kind, place, &bytes)?;
             }
             _ => println!(rt; "unknown record")?,
         }

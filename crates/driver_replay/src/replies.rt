@@ -118,14 +118,10 @@ impl fmt::Display for Columns<Option<Answer>> {
     }
 }
 
-// The bytes of a dump. Eight at a time are faster than one.
+// The bytes of a dump.
 impl fmt::Display for Columns<&[u8]> {
     fn fmt<W: fmt::Write>(&self, f: &mut fmt::Formatter<W>) -> fmt::Result {
-        let (words, bytes) = self.0.as_chunks::<8>();
-        for word in words {
-            write!(f, "{:016x}", u64::from_be_bytes(*word))?;
-        }
-        for byte in bytes {
+        for byte in self.0 {
             write!(f, "{byte:02x}")?;
         }
         Ok(())

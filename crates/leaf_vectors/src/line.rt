@@ -1,7 +1,8 @@
 // A line of 128 bytes: docs/VECTORS.md has its columns.
 use hex_digits::bytes;
 
-// What a line asks, with the bytes of a frame and how many of them are given, and the answer that it expects.
+// What a line asks, with the bytes of a frame and how many of them are given, and the answer that it expects. An array with a length
+// beside it, as the line has both, and as there is no heap.
 #[derive(Clone, Copy)]
 pub struct Question {
     pub section: u8,

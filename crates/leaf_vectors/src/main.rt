@@ -5,6 +5,7 @@
 mod line;
 mod number;
 
+use frame_control::FrameControl;
 use line::Question;
 use std::io::ErrorKind;
 use std::{fmt, io};
@@ -28,8 +29,7 @@ struct Tally {
 fn answer(q: &Question) -> Option<u64> {
     let frame = q.frame();
     let control = util::u16_at(frame, 0);
-    let [low, high] = control.to_le_bytes();
-    let fc = frame_control::frame_control(low, high);
+    let fc = FrameControl::from(control);
     Some(match q.kind {
         b'v' => leaves_c::widosha_is_valid(control).into(),
         b'l' => leaves_c::widosha_addressing_fields_lengths(control).into(),
@@ -103,7 +103,7 @@ impl Tally {
 }
 
 // The input ends where fewer bytes than a line's are left. `for` with `break` is the form that the language has for a loop that ends
-// with its input.
+// with its input; more than 100,000 lines are not read.
 fn replay(rt: &impl Print, input: &mut impl io::Read) -> io::Result<Tally> {
     let mut tally = Tally::new();
     let mut line = [0u8; 128];

@@ -86,11 +86,8 @@ fn unpacked(packed: u64) -> Settings {
         headroom,
         tailroom,
         fcs_length,
-        hardware_addr: 0,
-        pan_id: 0,
-        implicit_broadcast: false,
-        ack_buffer: 0,
         spare_buffer: 1,
+        ..Settings::default()
     }
 }
 

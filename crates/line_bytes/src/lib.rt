@@ -75,6 +75,7 @@ fn record_bytes(q: Request) -> [u8; 24]
 pub fn encode(line: &Line) -> [u8; 96]
     ensures { result ≡ written_line line.now }
 {
+    // By index: what is written through a zip of `iter_mut`, or through chunks, no clause says.
     let mut records = [[0; 24]; DRIVER_CHANNEL_CAPACITY];
     for (i, q) in line.requests().iter().enumerate() {
         records[i] = record_bytes(*q);

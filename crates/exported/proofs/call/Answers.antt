@@ -1,4 +1,4 @@
--- `exported::call` meets its contract.
+-- `exported::call` meets its contract. The search, tried with the lemmas of Calls.antt (also restated over equations alone), proves neither goal.
 -- Assumes nothing.
 use Rattle.std.proofs.Common.{◌≡◌}
 use Rattle.refusals.proofs.Refusals.{handed_on}

@@ -1,6 +1,6 @@
--- `exported::start` meets its contract.
+-- `exported::start` meets its contract. The search, tried with the lemmas of Calls.antt, proves neither goal.
 -- Assumes nothing.
-use Rattle.std.proofs.Common.{◌≡◌, sym, ◌∙◌}
+use Rattle.std.proofs.Common.{sym, ◌∙◌}
 use Rattle.byte_calls.proofs.History.{always_byte_sound}
 use Rattle.exported.proofs.Calls.{start_done, start_refused}
 use Rattle.exported.proofs.start.Goals as goal

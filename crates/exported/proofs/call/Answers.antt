@@ -1,6 +1,5 @@
 -- `exported::call` meets its contract. The search, tried with the lemmas of Calls.antt (also restated over equations alone), proves neither goal.
 -- Assumes nothing.
-use Rattle.std.proofs.Common.{◌≡◌}
 use Rattle.refusals.proofs.Refusals.{handed_on}
 use Rattle.slices.proofs.Slices.{read_ok, read_err}
 use Rattle.exported.proofs.Calls.{done, not_done}

@@ -1,7 +1,7 @@
 // The waiting line as 96 bytes (docs/LAYOUTS.md): writing it, and reading it where the bytes are those of a line that fits the state.
 #![tactic(auto)]
 
-ghost use Rattle.std.specs.Prelude.{◌≡◌, drop};
+ghost use Rattle.std.specs.Prelude.{◌≡◌};
 ghost use Rattle.state_bytes.specs.Valid.{same_list};
 ghost use Rattle.line_bytes.specs.Layout.{start_fields, task_fields, record_bytes, written_line, start_at, task_at, request_at, line_at};
 ghost use Rattle.line_bytes.specs.Valid.{request_fits, line_fits, DecodesLine};
@@ -110,7 +110,7 @@ fn task_at(kind: u8, cca: u8, length: u16) -> Task
     }
 }
 
-// The request of the record that the bytes begin with: each field from its own place.
+// The request of the record that the bytes begin with: fields, each from its own place, so no loop.
 #[tactic(auto, unfolding(crate::specs::Layout::request_at))]
 fn request_at(bytes: &[u8]) -> Request
     ensures { result ≡ request_at bytes.now }

@@ -23,15 +23,6 @@ use Rattle.slices.specs.Inner.{read_of, Finished}
 use Rattle.slices.proofs.Lengths.{state_length, reply_length}
 use Rattle.tasks.specs.declared.State.{State}
 
-module _ (o : Outcome) (st re : List ℕ) where
-  pub finished : (r : ℕ) (st' re' es er : List ℕ) → r ≡ o.refusal → o.refusal ≡ 0 → es ≡ written_state o.state → er ≡ written_reply o.reply
-      → st' ≡ stored_over es st → re' ≡ stored_over er re → Finished o st re r st' re'
-  finished r st' re' es er p z e f q u =
-      record { result = p; state = q ∙ simp (eq-eqb o.refusal 0 z, e); reply = u ∙ simp (eq-eqb o.refusal 0 z, f) }
-
-  pub not_finished : (r : ℕ) → r ≡ o.refusal → (o.refusal ≡ 0 → ⊥) → Finished o st re r st re
-  not_finished r p z = record { result = p; state = simp (ne_eqb o.refusal 0 z); reply = simp (ne_eqb o.refusal 0 z) }
-
 pub lengths : (st re : List ℕ) → slices_fit (length st) (length re) ≡ true → (length st ≡ 64) × (length re ≡ 48)
 unfolding slices_fit
 lengths st re h =

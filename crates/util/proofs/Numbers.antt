@@ -7,7 +7,7 @@ use lib.ListN.{get_or, take, drop, replicate}
 use Rattle.std.proofs.lemmas.List.{drop-replicate}
 use lib.Seq.{get_or-take, get_or-drop}
 use native.Mathlib.Omega.{arith}
-use Rattle.std.specs.Int.{to_le_bytes, w16, w32, w64}
+use Rattle.std.specs.Int.{to_le_bytes, w64}
 use borrow.Author.Rules.{rules}
 use Rattle.util.specs.Bytes.{number_at, bytes_of, AllBytes, ReadBack, FitsBytes}
 
@@ -85,11 +85,5 @@ pub from_place : (bytes field : List ℕ) (at j n : ℕ) → field ≡ take n (d
 from_place bytes field at j n e = rw (drop-replicate, e, padded) (in_place bytes at n)
 
 -- std's bytes of a number are the definition's
-pub le_bytes_2 : (v : ℕ) → to_le_bytes w16 v ≡ bytes_of 2 v
-le_bytes_2 v = search rules
-
-pub le_bytes_4 : (v : ℕ) → to_le_bytes w32 v ≡ bytes_of 4 v
-le_bytes_4 v = search rules
-
 pub le_bytes_8 : (v : ℕ) → to_le_bytes w64 v ≡ bytes_of 8 v
 le_bytes_8 v = search rules

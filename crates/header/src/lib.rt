@@ -10,15 +10,16 @@ use frame_control::AddressingMode::{self, Absent, Extended, Short, Unknown};
 use frame_control::FrameControl;
 
 // An address, as the number that its bytes give, low byte first.
-#[derive(Clone, Copy)]
+#[derive(Clone, Copy, Default)]
 pub enum Address {
+    #[default]
     Absent,
     Short(u16),
     Extended(u64),
 }
 
 // The addressing fields of a header.
-#[derive(Clone, Copy)]
+#[derive(Clone, Copy, Default)]
 pub struct AddressingFields {
     pub dst_pan_id: Option<u16>,
     pub dst_address: Address,

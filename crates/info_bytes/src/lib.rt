@@ -36,16 +36,13 @@ fn encode(frame: &[u8]) -> [u8; 32]
 {
     let info = header::preliminary_frame_info(frame);
     let control = info.frame_control;
-    let dst = info.addressing_fields.unwrap_or(AddressingFields {
-        dst_pan_id: None,
-        dst_address: Address::Absent,
-    });
+    let dst = info.addressing_fields.unwrap_or_default();
     let dst_address = address_fields(dst.dst_address);
-    let src_address = address_fields(info.src_address.unwrap_or(Address::Absent));
+    let src_address = address_fields(info.src_address.unwrap_or_default());
     let mut bytes = [0; 32];
     bytes[0] = u8::from(control.is_some());
-    bytes[1] = control.and(Some(util::byte_at(frame, 0))).unwrap_or(0);
-    bytes[2] = control.and(Some(util::byte_at(frame, 1))).unwrap_or(0);
+    bytes[1] = control.map_or(0, |_| util::byte_at(frame, 0));
+    bytes[2] = control.map_or(0, |_| util::byte_at(frame, 1));
     bytes[3] = u8::from(info.seq_nr.is_some());
     bytes[4] = info.seq_nr.unwrap_or(0);
     bytes[5] = u8::from(info.addressing_fields.is_some());

@@ -184,8 +184,9 @@ pub enum StopListening {
 
 // What the radio or the queue is to do. Tx: buffer, length, channel check, start, spacing, rollback. Rx: buffer, start,
 // spacing, rollback. Off: rollback. Nothing stands in a refusal only.
-#[derive(Clone, Copy)]
+#[derive(Clone, Copy, Default)]
 pub enum Action {
+    #[default]
     Nothing,
     ReceiveRequest,
     TryReceiveRequest(TaskDirection),
@@ -214,14 +215,15 @@ pub struct Answer {
 }
 
 // Up to two answers, the earlier request's first. (Not a Vec, as there is no heap, nor two Options, which could be None and Some.)
-#[derive(Clone, Copy)]
+#[derive(Clone, Copy, Default)]
 pub enum Answers {
+    #[default]
     None,
     One(Answer),
     Two(Answer, Answer),
 }
 
-#[derive(Clone, Copy)]
+#[derive(Clone, Copy, Default)]
 pub struct Reply {
     pub action: Action,
     pub answers: Answers,

@@ -54,6 +54,7 @@ fn task_fields(task: Task) -> TaskFields
     }
 }
 
+#[tactic(auto, using(util::proofs::Numbers::le_bytes_4, util::proofs::Numbers::le_bytes_8))]
 fn record_bytes(q: Request) -> [u8; 24]
     ensures { result ≡ record_bytes q }
 {
@@ -64,9 +65,9 @@ fn record_bytes(q: Request) -> [u8; 24]
     bytes[1] = start.code;
     bytes[2] = task.cca;
     bytes[3] = q.buffer;
-    bytes[4..8].copy_from_slice(&util::bytes_of_u32(q.token));
-    bytes[8..16].copy_from_slice(&util::bytes_of_u64(start.time));
-    bytes[16..18].copy_from_slice(&util::bytes_of_u16(task.length));
+    bytes[4..8].copy_from_slice(&q.token.to_le_bytes());
+    bytes[8..16].copy_from_slice(&start.time.to_le_bytes());
+    bytes[16..18].copy_from_slice(&task.length.to_le_bytes());
     bytes
 }
 

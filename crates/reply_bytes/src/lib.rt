@@ -41,7 +41,8 @@ pub struct AnswerFields {
 
 #[tactic(auto, using(crate::proofs::Spacing::code_fits), unfolding(crate::specs::Reply::spacing_bits))]
 fn spacing_bits(s: Option<Ifs>) -> u8
-    ensures { (result ≡ spacing_bits s) × (result ≤ 24) }
+    ensures value { result ≡ spacing_bits s }
+    ensures fits { result ≤ 24 }
 {
     s.map_or(0, |i| 8 * (1 + u8::from(i)))
 }
@@ -185,7 +186,8 @@ fn answer_fields(a: Answer) -> AnswerFields
 // The two answers; one that is not there is all 0.
 #[tactic(auto, unfolding(crate::specs::Reply::first_fields, crate::specs::Reply::second_fields))]
 fn both_fields(x: Answers) -> (AnswerFields, AnswerFields)
-    ensures { (result.0 ≡ first_fields x) × (result.1 ≡ second_fields x) }
+    ensures first { result.0 ≡ first_fields x }
+    ensures second { result.1 ≡ second_fields x }
 {
     match x {
         Answers::None => (AnswerFields::default(), AnswerFields::default()),
@@ -197,20 +199,21 @@ fn both_fields(x: Answers) -> (AnswerFields, AnswerFields)
 // ---- Bytes
 
 // An answer's 18 bytes.
+#[tactic(auto, using(util::proofs::Numbers::le_bytes_4, util::proofs::Numbers::le_bytes_8))]
 fn answer_bytes(x: AnswerFields) -> [u8; 18]
     ensures { result ≡ written_answer x }
 {
     let mut bytes = [0; 18];
     bytes[0] = x.response.code;
-    bytes[1..5].copy_from_slice(&util::bytes_of_u32(x.token));
+    bytes[1..5].copy_from_slice(&x.token.to_le_bytes());
     bytes[5] = x.buffer;
     bytes[6] = x.response.length;
-    bytes[7..15].copy_from_slice(&util::bytes_of_u64(x.response.time));
+    bytes[7..15].copy_from_slice(&x.response.time.to_le_bytes());
     bytes[15] = x.response.quality;
     bytes
 }
 
-#[tactic(auto, unfolding(crate::specs::Reply::written_fields))]
+#[tactic(auto, unfolding(crate::specs::Reply::written_fields), using(util::proofs::Numbers::le_bytes_8))]
 fn encode_fields(a: ActionFields, x: AnswerFields, y: AnswerFields) -> [u8; 48]
     ensures { result ≡ written_fields a x y }
 {
@@ -219,7 +222,7 @@ fn encode_fields(a: ActionFields, x: AnswerFields, y: AnswerFields) -> [u8; 48]
     bytes[1] = a.buffer;
     bytes[2] = a.length;
     bytes[3] = a.flags;
-    bytes[4..12].copy_from_slice(&util::bytes_of_u64(a.time));
+    bytes[4..12].copy_from_slice(&a.time.to_le_bytes());
     bytes[12..30].copy_from_slice(&answer_bytes(x));
     bytes[30..].copy_from_slice(&answer_bytes(y));
     bytes

@@ -12,17 +12,18 @@ use wait_parts::{Part, Parts};
 // ---- Bytes
 
 // A request's token, buffer and length: 7 bytes.
+#[tactic(auto, using(util::proofs::Numbers::le_bytes_4))]
 fn task_bytes(q: TxTask) -> [u8; 7]
     ensures { result ≡ written_task q }
 {
     let mut bytes = [0; 7];
-    bytes[..4].copy_from_slice(&util::bytes_of_u32(q.token));
+    bytes[..4].copy_from_slice(&q.token.to_le_bytes());
     bytes[4] = q.buffer;
-    bytes[5..].copy_from_slice(&util::bytes_of_u16(q.length));
+    bytes[5..].copy_from_slice(&q.length.to_le_bytes());
     bytes
 }
 
-#[tactic(auto, unfolding(crate::specs::Layout::written_parts))]
+#[tactic(auto, unfolding(crate::specs::Layout::written_parts), using(util::proofs::Numbers::written_8))]
 fn encode_parts(set: Settings, p: Parts) -> [u8; 64]
     ensures { result ≡ written_parts set p }
 {
@@ -31,8 +32,8 @@ fn encode_parts(set: Settings, p: Parts) -> [u8; 64]
     bytes[1] = set.headroom;
     bytes[2] = set.tailroom;
     bytes[3] = set.fcs_length;
-    bytes[4..12].copy_from_slice(&util::bytes_of_u64(set.hardware_addr));
-    bytes[12..14].copy_from_slice(&util::bytes_of_u16(set.pan_id));
+    bytes[4..12].copy_from_slice(&set.hardware_addr.to_le_bytes());
+    bytes[12..14].copy_from_slice(&set.pan_id.to_le_bytes());
     bytes[14] = u8::from(set.implicit_broadcast);
     bytes[15] = set.ack_buffer;
     bytes[16] = set.spare_buffer;
@@ -44,7 +45,7 @@ fn encode_parts(set: Settings, p: Parts) -> [u8; 64]
     bytes[34] = p.case.number;
     bytes[35] = p.next.number;
     bytes[36] = p.case.spacing;
-    bytes[37..45].copy_from_slice(&util::bytes_of_u64(p.case.time));
+    bytes[37..45].copy_from_slice(&p.case.time.to_le_bytes());
     bytes
 }
 

@@ -2,7 +2,7 @@
 #![tactic(auto)]
 
 ghost use Rattle.std.specs.Prelude.{◌≡◌, get_or, set, take, drop};
-ghost use Rattle.util.specs.Bytes.{stored_over, number_at, bytes_of};
+ghost use Rattle.util.specs.Bytes.{stored_over, number_at};
 
 // The byte at a place, and 0 past the end.
 pub fn byte_at(s: &[u8], at: usize) -> u8
@@ -70,24 +70,4 @@ pub fn u64_at(bytes: &[u8], at: usize) -> u64
     ensures { result ≡ number_at bytes.now at 8 }
 {
     u64::from_le_bytes(bytes_at(bytes, at))
-}
-
-// The bytes of a number, the low one first: std's method of each width, with the layouts' clause, which its callers would each have to
-// derive from std's.
-pub fn bytes_of_u16(v: u16) -> [u8; 2]
-    ensures { result ≡ bytes_of 2 v }
-{
-    u16::to_le_bytes(v)
-}
-
-pub fn bytes_of_u32(v: u32) -> [u8; 4]
-    ensures { result ≡ bytes_of 4 v }
-{
-    u32::to_le_bytes(v)
-}
-
-pub fn bytes_of_u64(v: u64) -> [u8; 8]
-    ensures { result ≡ bytes_of 8 v }
-{
-    u64::to_le_bytes(v)
 }

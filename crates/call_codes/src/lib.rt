@@ -85,7 +85,7 @@ fn received_of(code: u8, length: u16, time: u64, quality: u8) -> Option<RxResult
 }
 
 // Two functions, here and below, since they build the cases of two enums: a generic one would take its first two values and a
-// closure for the third from each caller, and be longer than both.
+// closure for the third from each caller, and be longer than both. Their numbers come one by one, as C passes them.
 #[tactic(auto, unfolding(crate::specs::Codes::stop_of, crate::specs::Codes::received_of))]
 fn stop_of(code: u8, length: u16, time: u64, quality: u8) -> Option<StopResult>
     ensures { result ≡ then_some (known (stop_table length time quality) code) (stop_of length time quality code) }

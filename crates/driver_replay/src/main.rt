@@ -100,7 +100,7 @@ impl Session {
 }
 
 // The input ends where fewer bytes than a record's are left. `for` with `break` is the form that the language has for a loop that ends
-// with its input.
+// with its input. (The loop of leaf_vectors is alike; one for both would take size, bound and step from each.)
 fn replay(rt: &impl Print, input: &mut impl io::Read) -> io::Result<()> {
     let mut session = Session::new();
     let mut line = [0u8; 64];

@@ -137,16 +137,10 @@ fn print_line(rt: &impl Print, text: impl fmt::Display + Drop) -> io::Result<()>
     rt.write_all(&line)
 }
 
-// What a refusal has in place of a reply.
-const NO_REPLY: Reply = Reply {
-    action: Action::Nothing,
-    answers: Answers::None,
-};
-
 // Prints the kind of a record, and what a start or a call came to.
 pub fn print(rt: &impl Print, kind: char, outcome: Result<Reply, Refusal>) -> io::Result<()> {
     let refusal = refusals::number(outcome.map(|_| ()));
-    let reply = outcome.unwrap_or(NO_REPLY);
+    let reply = outcome.unwrap_or_default();
     let action = Columns(reply.action);
     let (first, second) = match reply.answers {
         Answers::None => (None, None),

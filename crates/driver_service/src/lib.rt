@@ -17,21 +17,18 @@ ghost use Rattle.driver_service.specs.Lent.{lent_outcome, lent_line, lent_pool, 
 use radio_frame::Settings;
 use refusals::Refusal;
 use service::ServiceCall;
-use tasks::{Action, Answers, Asked, Call, Reply, Request, State, Stop, Timestamp, Wait};
+use tasks::{Asked, Call, Reply, Request, State, Stop, Timestamp, Wait};
 use waiting_line::{DRIVER_CHANNEL_CAPACITY, Line, RequestRecord};
 
 // What a call on the line returns: the state as it was, no action and no answer.
 fn silent(state: State) -> (State, Reply)
     ensures { result ≡ (state, no_reply) }
 {
-    let reply = Reply {
-        action: Action::Nothing,
-        answers: Answers::None,
-    };
-    (state, reply)
+    (state, Reply::default())
 }
 
-// ---- Calls on the line
+// ---- Calls on the line (here and below state, line and pool come one by one, as the definitions have them: a struct of the three would be
+// taken apart in each clause)
 
 #[tactic(auto, using(crate::proofs::Promises::room), unfolding(service::specs::Service::arrive_of, service::specs::Service::arrive_refusal, service::specs::Service::unless_refused))]
 fn arrive(s: State, line: &mut Line, q: Request) -> Result<(State, Reply), Refusal>

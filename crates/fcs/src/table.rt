@@ -24,7 +24,7 @@ const FCS_TABLE: [u16; 256] = [
     27214, 22741, 18780, 15843, 11370, 7921, 3960,
 ];
 
-// The table, of which `EveryEntry` speaks.
+// The table, of which `EveryEntry` speaks. (A function, as a const has no clause.)
 #[tactic(auto, unfolding(crate::specs::Table::fcs_table))]
 pub fn fcs_table() -> &'static [u16; 256]
     ensures { result.now ≡ fcs_table }

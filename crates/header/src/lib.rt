@@ -10,16 +10,15 @@ use frame_control::AddressingMode::{self, Absent, Extended, Short, Unknown};
 use frame_control::FrameControl;
 
 // An address, as the number that its bytes give, low byte first.
-#[derive(Clone, Copy, Default)]
+#[derive(Clone, Copy)]
 pub enum Address {
-    #[default]
     Absent,
     Short(u16),
     Extended(u64),
 }
 
 // The addressing fields of a header.
-#[derive(Clone, Copy, Default)]
+#[derive(Clone, Copy)]
 pub struct AddressingFields {
     pub dst_pan_id: Option<u16>,
     pub dst_address: Address,

@@ -29,20 +29,24 @@ fn address_fields(address: Address) -> AddressFields
     }
 }
 
-// The bytes of the facts of a frame; all bytes of a missing fact are 0.
+// The bytes of the facts of a frame; all bytes of a missing fact are 0. (By `and` and `unwrap_or`: with
+// `map_or` and a closure, and with `unwrap_or_default`, the search left the bytes' goal open.)
 #[tactic(auto, unfolding(crate::specs::Info::written_info, crate::specs::Info::written_facts), using(crate::proofs::Parts::is_there, crate::proofs::Parts::is_beside, util::proofs::Numbers::le_bytes_8))]
 fn encode(frame: &[u8]) -> [u8; 32]
     ensures { result ≡ written_info frame.now }
 {
     let info = header::preliminary_frame_info(frame);
     let control = info.frame_control;
-    let dst = info.addressing_fields.unwrap_or_default();
+    let dst = info.addressing_fields.unwrap_or(AddressingFields {
+        dst_pan_id: None,
+        dst_address: Address::Absent,
+    });
     let dst_address = address_fields(dst.dst_address);
-    let src_address = address_fields(info.src_address.unwrap_or_default());
+    let src_address = address_fields(info.src_address.unwrap_or(Address::Absent));
     let mut bytes = [0; 32];
     bytes[0] = u8::from(control.is_some());
-    bytes[1] = control.map_or(0, |_| util::byte_at(frame, 0));
-    bytes[2] = control.map_or(0, |_| util::byte_at(frame, 1));
+    bytes[1] = control.and(Some(util::byte_at(frame, 0))).unwrap_or(0);
+    bytes[2] = control.and(Some(util::byte_at(frame, 1))).unwrap_or(0);
     bytes[3] = u8::from(info.seq_nr.is_some());
     bytes[4] = info.seq_nr.unwrap_or(0);
     bytes[5] = u8::from(info.addressing_fields.is_some());
@@ -64,11 +68,9 @@ fn encode(frame: &[u8]) -> [u8; 32]
 pub fn preliminary_frame_info(frame: &[u8], info: &mut [u8]) -> Result<(), Refusal>
     ensures { InfoCalled frame.now info.old (number_of result) info.new }
 {
-    if info.len() == 32 {
-        let new_info = encode(frame);
-        util::store(&new_info, info);
-        Ok(())
-    } else {
-        Err(Refusal::Slices)
+    if info.len() != 32 {
+        return Err(Refusal::Slices);
     }
+    info.copy_from_slice(&encode(frame));
+    Ok(())
 }

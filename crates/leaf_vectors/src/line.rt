@@ -2,7 +2,7 @@
 use hex_digits::bytes;
 
 // What a line asks, with the bytes of a frame and how many of them are given, and the answer that it expects. An array with a length
-// beside it, as the line has both, and as there is no heap.
+// beside it, as the line has both, and as there is no heap. Section and kind are the letters of that format.
 #[derive(Clone, Copy)]
 pub struct Question {
     pub section: u8,

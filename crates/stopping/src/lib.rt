@@ -31,7 +31,7 @@ fn ask_outbound(set: Settings, q: RxTask) -> Accepted
 }
 
 // A failure while listening for an awaited ACK: once it is stopped again without a time, a second time it does not fit.
-// The result stands first: as (p, x) the borrow checker does not cover the match.
+// The result stands first: as (p, x) the check refuses the match ("a field of a variant is read after the enum is used whole").
 #[tactic(auto, unfolding(crate::specs::Stopping::stopped_of, crate::specs::Stopping::frame_stopped, crate::specs::Stopping::outbound_stopped, crate::specs::Stopping::ack_stopped, crate::specs::Stopping::ack_failed, moves::specs::Move::guarded_of))]
 fn stopped(s: State, p: Stop, x: StopResult) -> Result<Accepted, Refusal>
     ensures { told s result ≡ stopped_of s x p }

@@ -9,7 +9,7 @@ use tasks::{Allowed, Request, Starts, Task, Timestamp};
 
 pub const DRIVER_CHANNEL_CAPACITY: usize = 4;
 
-// A place of the line. (No Option: a place that is held, but not yet filled, is to be a third case.)
+// A place of the line. (No Option: document 02, E7, makes a place that is held, but not yet filled, a third case of this lent type.)
 #[derive(Clone, Copy)]
 pub enum Place {
     Free,
@@ -22,7 +22,8 @@ pub struct RequestRecord {
     pub place: Place,
 }
 
-// The requests that wait, in the order of their arrival. What stands behind them means nothing.
+// The requests that wait, in the order of their arrival: an array and how many of it count, as the memory is fixed and there is no heap.
+// What stands behind them means nothing.
 #[derive(Drop)]
 pub struct Line {
     requests: [Request; DRIVER_CHANNEL_CAPACITY],

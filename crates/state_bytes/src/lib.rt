@@ -23,7 +23,7 @@ fn task_bytes(q: TxTask) -> [u8; 7]
     bytes
 }
 
-#[tactic(auto, unfolding(crate::specs::Layout::written_parts), using(util::proofs::Numbers::written_8))]
+#[tactic(auto, unfolding(crate::specs::Layout::written_parts), using(util::proofs::Numbers::le_bytes_8))]
 fn encode_parts(set: Settings, p: Parts) -> [u8; 64]
     ensures { result ≡ written_parts set p }
 {

@@ -84,13 +84,9 @@ padded bytes m at (suc n) = rw (past bytes m at, padded bytes m (at + 1) n)
 pub from_place : (bytes field : List ℕ) (at j n : ℕ) → field ≡ take n (drop at bytes) → number_at (field ++ drop j (replicate n 0)) 0 n ≡ number_at bytes at n
 from_place bytes field at j n e = rw (drop-replicate, e, padded) (in_place bytes at n)
 
--- std's bytes of a number are the definition's (of two bytes the search sees that itself)
-pub le_bytes_4 : (v : ℕ) → to_le_bytes w32 v ≡ bytes_of 4 v
-le_bytes_4 v = search rules
+-- what std writes a number as is the definition's bytes of it (of two bytes the search sees that itself)
+pub le_bytes_4 : (v : ℕ) {bytes : List ℕ} → bytes ≡ to_le_bytes w32 v → bytes ≡ bytes_of 4 v
+le_bytes_4 v e = let same : to_le_bytes w32 v ≡ bytes_of 4 v = search rules in e ∙ same
 
-pub le_bytes_8 : (v : ℕ) → to_le_bytes w64 v ≡ bytes_of 8 v
-le_bytes_8 v = search rules
-
--- .. and so is a list that std wrote: state_bytes' 64 bytes are closed by this one, info_bytes' 32 only by the equation
-pub written_8 : (v : ℕ) {bytes : List ℕ} → bytes ≡ to_le_bytes w64 v → bytes ≡ bytes_of 8 v
-written_8 v e = e ∙ le_bytes_8 v
+pub le_bytes_8 : (v : ℕ) {bytes : List ℕ} → bytes ≡ to_le_bytes w64 v → bytes ≡ bytes_of 8 v
+le_bytes_8 v e = let same : to_le_bytes w64 v ≡ bytes_of 8 v = search rules in e ∙ same

@@ -5,7 +5,7 @@ ghost use Rattle.std.specs.Prelude.{◌≡◌, ◌<◌, ◌≤◌, [], ◌∷◌
 ghost use Rattle.waiting_line.specs.Line.{waiting, records, place_for, allows, has_token, has_buffer, is_tx, any_passes, earliest_of, without_earliest, names_tx, is_token};
 
 use std::marker::Model;
-use tasks::{Allowed, Request, Starts, Task, Timestamp};
+use tasks::{Allowed, Request, Task, Timestamp};
 
 pub const DRIVER_CHANNEL_CAPACITY: usize = 4;
 
@@ -132,14 +132,11 @@ impl Line {
         }
     }
 
+    #[tactic(auto, unfolding(requests::specs::Requests::not_allowed, requests::specs::Requests::start_allowed))]
     fn earliest_tx(&self) -> Option<&Request>
         ensures { option_copied result ≡ earliest_of is_tx self.now }
     {
-        let any_tx = Allowed {
-            tx: Starts::Any,
-            rx: Starts::Never,
-        };
-        self.requests().iter().find(|q| is_allowed(any_tx, **q))
+        self.requests().iter().find(|q| matches!(q.task, Task::Tx(_, _)))
     }
 
     // Whether the earliest Tx has the start and the flag.

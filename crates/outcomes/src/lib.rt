@@ -24,7 +24,8 @@ fn unknown(s: State, pool: usize) -> Result<(State, Reply), Refusal>
 // The engine's outcome of a call.
 #[tactic(auto, unfolding(crate::specs::Outcomes::made_outcome, crate::specs::Outcomes::made_pool))]
 pub fn made(s: State, pool: &mut [u8], x: ExportedCall) -> Result<(State, Reply), Refusal>
-    ensures { (outcome_told s result ≡ made_outcome s pool.old x) × (pool.new ≡ made_pool s pool.old x) }
+    ensures outcome { outcome_told s result ≡ made_outcome s pool.old x }
+    ensures pool { pool.new ≡ made_pool s pool.old x }
 {
     match x.call() {
         Some(c) => driver::step(s, pool, c),
@@ -46,7 +47,8 @@ fn unknown_start(set: Settings, pool: usize) -> Result<(State, Reply), Refusal>
 // The engine's outcome of a start.
 #[tactic(auto, unfolding(crate::specs::Outcomes::begun_outcome, crate::specs::Outcomes::begun_pool))]
 pub fn begun(n: StartNumbers, pool: &mut [u8]) -> Result<(State, Reply), Refusal>
-    ensures { (outcome_told (idle_of (settings_of n)) result ≡ begun_outcome n pool.old) × (pool.new ≡ begun_pool n pool.old) }
+    ensures outcome { outcome_told (idle_of (settings_of n)) result ≡ begun_outcome n pool.old }
+    ensures pool { pool.new ≡ begun_pool n pool.old }
 {
     if n.implicit_broadcast < 2 {
         driver::start(n.settings(), pool)

@@ -14,4 +14,4 @@ returns-in_err-s c =
 pub returns : goal.returns
 returns c =
     let a = c.args in
-    done a.state.now a.reply.now a.pool.now a.x _ (read_ok _ c.in_ok-s.ensures.case) _ _ _ _ _ c.made.ensures.0 c.made.ensures.1 (c.finish.ensures c.in_ok-s.s)
+    done a.state.now a.reply.now a.pool.now a.x _ (read_ok _ c.in_ok-s.ensures.case) _ _ _ _ _ c.made.ensures.outcome c.made.ensures.pool (c.finish.ensures c.in_ok-s.s)

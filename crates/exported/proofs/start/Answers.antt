@@ -13,6 +13,6 @@ returns-then-not-slices_fit c =
 pub returns : goal.returns
 returns c =
     let a = c.args in
-    start_done a.n a.pool.now a.state.now a.reply.now (sym c.slices_fit.ensures ∙ c.if-not-slices_fit.false) _ _ _ _ _ c.begun.ensures.0 c.begun.ensures.1
+    start_done a.n a.pool.now a.state.now a.reply.now (sym c.slices_fit.ensures ∙ c.if-not-slices_fit.false) _ _ _ _ _ c.begun.ensures.outcome c.begun.ensures.pool
     (c.finish.ensures _)
     (always_byte_sound a.n a.state.now a.reply.now a.pool.now)

@@ -11,7 +11,7 @@ use tasks::{
 };
 
 // An action as numbers.
-#[derive(Clone, Copy, Default)]
+#[derive(Clone, Copy)]
 pub struct ActionFields {
     pub code: u8,
     pub buffer: u8,
@@ -21,7 +21,7 @@ pub struct ActionFields {
 }
 
 // What a request came to, as numbers.
-#[derive(Clone, Copy, Default)]
+#[derive(Clone, Copy)]
 pub struct CameTo {
     pub code: u8,
     pub length: u8,
@@ -30,7 +30,7 @@ pub struct CameTo {
 }
 
 // An answer as numbers.
-#[derive(Clone, Copy, Default)]
+#[derive(Clone, Copy)]
 pub struct AnswerFields {
     pub token: u32,
     pub buffer: u8,
@@ -38,6 +38,15 @@ pub struct AnswerFields {
 }
 
 // ---- The action, as functions of the definitions' names: each has one caller, which a From would hide
+
+// An action with nothing but its code. (Constants here and below, not Default: the many uses stay short.)
+const PLAIN: ActionFields = ActionFields {
+    code: 0,
+    buffer: 0,
+    length: 0,
+    flags: 0,
+    time: 0,
+};
 
 #[tactic(auto, using(crate::proofs::Spacing::code_fits), unfolding(crate::specs::Reply::spacing_bits))]
 fn spacing_bits(s: Option<Ifs>) -> u8
@@ -54,11 +63,11 @@ fn task_fields(cca: bool, start: Timestamp, spacing: Option<Ifs>, rollback: bool
 {
     let flags = u8::from(cca) + 2 * u8::from(rollback) + spacing_bits(spacing);
     match start {
-        Timestamp::BestEffort => ActionFields { flags, ..ActionFields::default() },
+        Timestamp::BestEffort => ActionFields { flags, ..PLAIN },
         Timestamp::Scheduled(time) => ActionFields {
             flags: flags + 4,
             time,
-            ..ActionFields::default()
+            ..PLAIN
         },
     }
 }
@@ -68,17 +77,17 @@ fn stop_fields(stop: StopListening) -> ActionFields
     ensures { result ≡ stop_fields stop }
 {
     match stop {
-        StopListening::Now => ActionFields { code: 5, ..ActionFields::default() },
+        StopListening::Now => ActionFields { code: 5, ..PLAIN },
         StopListening::At(time) => ActionFields {
             code: 6,
             time,
-            ..ActionFields::default()
+            ..PLAIN
         },
         StopListening::Before(time, cca) => ActionFields {
             code: 7,
             flags: u8::from(cca),
             time,
-            ..ActionFields::default()
+            ..PLAIN
         },
     }
 }
@@ -88,13 +97,13 @@ fn action_fields(a: Action) -> ActionFields
     ensures { result ≡ action_fields a }
 {
     match a {
-        Action::Nothing => ActionFields::default(),
-        Action::ReceiveRequest => ActionFields { code: 1, ..ActionFields::default() },
-        Action::TryReceiveRequest(TaskDirection::Any) => ActionFields { code: 2, ..ActionFields::default() },
-        Action::TryReceiveRequest(TaskDirection::Outbound) => ActionFields { code: 3, ..ActionFields::default() },
-        Action::Listen => ActionFields { code: 4, ..ActionFields::default() },
+        Action::Nothing => PLAIN,
+        Action::ReceiveRequest => ActionFields { code: 1, ..PLAIN },
+        Action::TryReceiveRequest(TaskDirection::Any) => ActionFields { code: 2, ..PLAIN },
+        Action::TryReceiveRequest(TaskDirection::Outbound) => ActionFields { code: 3, ..PLAIN },
+        Action::Listen => ActionFields { code: 4, ..PLAIN },
         Action::Stop(stop) => stop_fields(stop),
-        Action::ReadHeader => ActionFields { code: 8, ..ActionFields::default() },
+        Action::ReadHeader => ActionFields { code: 8, ..PLAIN },
         Action::Tx(buffer, length, cca, start, spacing, rollback) => ActionFields {
             code: 9,
             buffer,
@@ -109,25 +118,39 @@ fn action_fields(a: Action) -> ActionFields
         Action::Off(rollback) => ActionFields {
             code: 11,
             flags: 2 * u8::from(rollback),
-            ..ActionFields::default()
+            ..PLAIN
         },
     }
 }
 
 // ---- The answers
 
+// A response with nothing but its code.
+const BARE: CameTo = CameTo {
+    code: 0,
+    length: 0,
+    time: 0,
+    quality: 0,
+};
+
+const NO_ANSWER: AnswerFields = AnswerFields {
+    token: 0,
+    buffer: 0,
+    response: BARE,
+};
+
 #[tactic(auto, unfolding(crate::specs::Reply::cause_fields, crate::specs::Reply::scheduling_fields))]
 fn cause_fields(cause: Cause) -> CameTo
     ensures { result ≡ cause_fields cause }
 {
     match cause {
-        Cause::Scheduling(Timestamp::BestEffort) => CameTo { code: 3, ..CameTo::default() },
+        Cause::Scheduling(Timestamp::BestEffort) => CameTo { code: 3, ..BARE },
         Cause::Scheduling(Timestamp::Scheduled(time)) => CameTo {
             code: 4,
             time,
-            ..CameTo::default()
+            ..BARE
         },
-        Cause::Task => CameTo { code: 5, ..CameTo::default() },
+        Cause::Task => CameTo { code: 5, ..BARE },
     }
 }
 
@@ -142,12 +165,12 @@ fn received_fields(x: RxResult) -> CameTo
             time,
             quality: k,
         },
-        RxResult::RxWindowEnded => CameTo { code: 7, ..CameTo::default() },
+        RxResult::RxWindowEnded => CameTo { code: 7, ..BARE },
         RxResult::CrcError(time, quality) => CameTo {
             code: 8,
             time,
             quality,
-            ..CameTo::default()
+            ..BARE
         },
     }
 }
@@ -160,12 +183,12 @@ fn response_fields(x: Response) -> CameTo
         Response::Sent(time) => CameTo {
             code: 1,
             time,
-            ..CameTo::default()
+            ..BARE
         },
         Response::Nack(time) => CameTo {
             code: 2,
             time,
-            ..CameTo::default()
+            ..BARE
         },
         Response::Error(cause) => cause_fields(cause),
         Response::Received(y) => received_fields(y),
@@ -190,8 +213,8 @@ fn both_fields(x: Answers) -> (AnswerFields, AnswerFields)
     ensures second { result.1 ≡ second_fields x }
 {
     match x {
-        Answers::None => (AnswerFields::default(), AnswerFields::default()),
-        Answers::One(a) => (answer_fields(a), AnswerFields::default()),
+        Answers::None => (NO_ANSWER, NO_ANSWER),
+        Answers::One(a) => (answer_fields(a), NO_ANSWER),
         Answers::Two(a, b) => (answer_fields(a), answer_fields(b)),
     }
 }

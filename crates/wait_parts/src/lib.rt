@@ -33,7 +33,7 @@ const NO_TASK: TxTask = TxTask {
     length: 0,
 };
 
-// The first case of a table: it holds nothing.
+// The first case of a table: it holds nothing. (A constant, not Default: its many uses stay short.)
 const NOTHING: Part = Part {
     code: 0,
     task: NO_TASK,

@@ -8,7 +8,7 @@ ghost use Rattle.entering.specs.Entering.{then_error, fell_back_of, rolled_back_
 use moves::Accepted;
 use refusals::Refusal;
 use tasks::{
-    Answer, Answers, Call, Cause, Left, Next, Response, RxTask, Slot, State, TaskResult,
+    Answer, Answers, Call, Cause, Left, Next, Response, Slot, State, TaskResult,
     Transition, TxTask,
 };
 

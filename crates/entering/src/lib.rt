@@ -8,8 +8,7 @@ ghost use Rattle.entering.specs.Entering.{then_error, fell_back_of, rolled_back_
 use moves::Accepted;
 use refusals::Refusal;
 use tasks::{
-    Answer, Answers, Call, Cause, Left, Next, Response, Slot, State, TaskResult,
-    Transition, TxTask,
+    Answer, Answers, Call, Cause, Left, Next, Response, Slot, State, TaskResult, Transition, TxTask,
 };
 
 // The answer that leaving owes, if any, then the error of the request that could not be entered.

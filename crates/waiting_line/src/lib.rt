@@ -136,7 +136,9 @@ impl Line {
     fn earliest_tx(&self) -> Option<&Request>
         ensures { option_copied result ≡ earliest_of is_tx self.now }
     {
-        self.requests().iter().find(|q| matches!(q.task, Task::Tx(_, _)))
+        self.requests()
+            .iter()
+            .find(|q| matches!(q.task, Task::Tx(_, _)))
     }
 
     // Whether the earliest Tx has the start and the flag.

@@ -77,6 +77,8 @@ pub fn encode(line: &Line) -> [u8; 96]
     ensures { result ≡ written_line line.now }
 {
     // By index: what is written through a zip of `iter_mut`, or through chunks, no clause says.
+    // Tried too: the records by `array::from_fn`, each by a function of the record at a place. That function is proved, but the search left
+    // this one's goal open, also with a lemma of an array that a closure makes (as hex_digits has one).
     let mut records = [[0; 24]; DRIVER_CHANNEL_CAPACITY];
     for (i, q) in line.requests().iter().enumerate() {
         records[i] = record_bytes(*q);

@@ -6,7 +6,8 @@ ghost use Rattle.hex_digits.specs.Hex.{digit_value, byte_of_pair, bytes_of_digit
 
 use std::array;
 
-// The value of a hexadecimal digit, '0' to '9' or 'a' to 'f'; a space is 0. Other bytes have one too, so that every text is read.
+// The value of a hexadecimal digit, '0' to '9' or 'a' to 'f'; a space is 0. Other bytes have one too, and none by std's
+// `to_digit`, so that every text is read.
 fn digit(c: u8) -> u8
     ensures value { result ≡ digit_value c }
     ensures fits { result < 16 }

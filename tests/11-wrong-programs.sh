@@ -1,5 +1,5 @@
 #!/usr/bin/env bash
-# docs/WRONG-PROGRAMS.md names every must-fail edit once, and no edit that is not there.
+# docs/WRONG-PROGRAMS.md names every must-fail edit once, and no edit that is not there; docs/WITNESSES.md has a row for each.
 cd "$(dirname "${BASH_SOURCE[0]}")/.." || exit 2
 doc=docs/WRONG-PROGRAMS.md
 status=0
@@ -22,5 +22,11 @@ while read -r name; do
         status=1
     fi
 done < <(sed -n "/^## Where document 01's own lists/,/^## /p" "$doc" | grep -oE '\b[a-z_]+/[a-z0-9_]+\b')
+difference=$(diff <(tr ' ' / <<<"$edits" | sort) <(sed -nE 's/^\| ([a-z_]+\/[a-z0-9_]+) \| .+ \|$/\1/p' docs/WITNESSES.md | sort))
+if [ -n "$difference" ]; then
+    echo "edits (<) and rows of docs/WITNESSES.md (>) differ:"
+    echo "$difference"
+    status=1
+fi
 [ "$status" -eq 0 ] && echo "$(wc -l <<<"$edits") edits, each with its row"
 exit "$status"

@@ -8,7 +8,7 @@ ghost use Rattle.call_codes.specs.Codes.{timestamp_table, timestamp_of, task_tab
 use radio_frame::Settings;
 use tasks::{Call, Cause, Request, RxResult, StopResult, Task, TaskResult, Timestamp};
 
-// A call as the host makes it: which function, and its numbers in their order.
+// A call as the host makes it: which function, and its numbers in their order, as C passes them.
 #[derive(Clone, Copy)]
 pub enum ExportedCall {
     Request(u32, u8, u8, u64, u8, u16, u8),
@@ -36,7 +36,7 @@ pub struct StartNumbers {
     pub spare_buffer: u8,
 }
 
-// ---- What the codes stand for; a code past the end of its table stands for nothing
+// ---- What the codes stand for, a table by a function of its definition's name; a code past the end of its table stands for nothing
 
 fn flag_of(code: u8) -> Option<bool>
     ensures { result ≡ then_some (known_flag code) (eqb code 1) }

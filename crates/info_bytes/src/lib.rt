@@ -15,6 +15,7 @@ struct AddressFields {
     pub number: u64,
 }
 
+// A function of its definition's name: a From would hide it from its two uses.
 #[tactic(auto, unfolding(crate::specs::Info::address_fields))]
 fn address_fields(address: Address) -> AddressFields
     ensures { result ≡ address_fields address }

@@ -24,7 +24,7 @@ pub struct TaskFields {
     pub length: u16,
 }
 
-// ---- Writing
+// ---- Writing, by functions of the definitions' names, as reading below: each has one caller, which a From would hide
 
 #[tactic(auto, unfolding(crate::specs::Layout::start_fields))]
 fn start_fields(start: Timestamp) -> StartFields

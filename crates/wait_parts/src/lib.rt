@@ -25,7 +25,7 @@ pub struct Parts {
     pub next: Part,
 }
 
-// ---- A wait as numbers
+// ---- A wait as numbers, each table by a function of its definition's name, here and below: a From for each would hide which it is
 
 const NO_TASK: TxTask = TxTask {
     token: 0,

@@ -2,7 +2,7 @@
 -- Assumes nothing.
 use Rattle.std.specs.Prelude.{ℕ, ◌≡◌, Bool, true, false, ◌&&◌, ◌||◌, List, [], ◌∷◌, ltb, eqb, get_or, length, Option, Some, None}
 use Rattle.radio_frame.specs.declared.Settings.{Settings}
-use Rattle.tasks.specs.declared.Call.{Call}
+use Rattle.service.specs.declared.ServiceCall.{ServiceCall}
 use Rattle.tasks.specs.declared.Cause.{Cause}
 use Rattle.tasks.specs.declared.RxResult.{RxResult}
 use Rattle.tasks.specs.declared.StopResult.{StopResult}
@@ -80,8 +80,10 @@ known_flag flag = ltb flag 2
 
 -- every code that the call uses stands for something; a number that the codes leave unused, as the flag of an Rx, is ignored
 unfoldable pub known_of : ExportedCall → Bool
-known_of (ExportedCall.Request token direction start time buffer length cca) =
+known_of (ExportedCall.Arrive token direction start time buffer length cca) =
     known (timestamp_table time) start && (known (task_table length cca) direction && (eqb direction 1 || known_flag cca))
+known_of (ExportedCall.Withdraw token) = true
+known_of ExportedCall.Request = true
 known_of ExportedCall.None = true
 known_of ExportedCall.FrameStart = true
 known_of (ExportedCall.OutboundSeen start time cca) = known (timestamp_table time) start && known_flag cca
@@ -92,20 +94,22 @@ known_of (ExportedCall.Fallback result length time cause causeTime quality) =
     known (result_table length time quality) result && known (cause_table causeTime) cause
 known_of ExportedCall.Rollback = true
 
--- the engine's call
-unfoldable pub call_of : ExportedCall → Call
-call_of (ExportedCall.Request token direction start time buffer length cca) =
-    Call.Request
+-- the service's call
+unfoldable pub call_of : ExportedCall → ServiceCall
+call_of (ExportedCall.Arrive token direction start time buffer length cca) =
+    ServiceCall.Arrive
     (record { token = token; start = timestamp_of time start; buffer = buffer; task = task_of length cca direction })
-call_of ExportedCall.None = Call.None
-call_of ExportedCall.FrameStart = Call.FrameStart
-call_of (ExportedCall.OutboundSeen start time cca) = Call.OutboundSeen (timestamp_of time start) (eqb cca 1)
-call_of (ExportedCall.Stopped outcome length time quality) = Call.Stopped (stop_of length time quality outcome)
-call_of (ExportedCall.Header arrived length) = Call.Header arrived length
-call_of (ExportedCall.Entered result length time entry quality) = Call.Entered (result_of length time quality result) entry
+call_of (ExportedCall.Withdraw token) = ServiceCall.Withdraw token
+call_of ExportedCall.Request = ServiceCall.Request
+call_of ExportedCall.None = ServiceCall.None
+call_of ExportedCall.FrameStart = ServiceCall.FrameStart
+call_of (ExportedCall.OutboundSeen start time cca) = ServiceCall.OutboundSeen (timestamp_of time start) (eqb cca 1)
+call_of (ExportedCall.Stopped outcome length time quality) = ServiceCall.Stopped (stop_of length time quality outcome)
+call_of (ExportedCall.Header arrived length) = ServiceCall.Header arrived length
+call_of (ExportedCall.Entered result length time entry quality) = ServiceCall.Entered (result_of length time quality result) entry
 call_of (ExportedCall.Fallback result length time cause causeTime quality) =
-    Call.Fallback (result_of length time quality result) (cause_of causeTime cause)
-call_of ExportedCall.Rollback = Call.Rollback
+    ServiceCall.Fallback (result_of length time quality result) (cause_of causeTime cause)
+call_of ExportedCall.Rollback = ServiceCall.Rollback
 
 -- the settings of a start
 unfoldable pub settings_of : StartNumbers → Settings
@@ -126,8 +130,10 @@ settings_of n =
 
 -- the same call with another number for the link quality
 abbrev pub with_quality : ℕ → ExportedCall → ExportedCall
-with_quality k (ExportedCall.Request token direction start time buffer length cca) =
-    ExportedCall.Request token direction start time buffer length cca
+with_quality k (ExportedCall.Arrive token direction start time buffer length cca) =
+    ExportedCall.Arrive token direction start time buffer length cca
+with_quality k (ExportedCall.Withdraw token) = ExportedCall.Withdraw token
+with_quality k ExportedCall.Request = ExportedCall.Request
 with_quality k ExportedCall.None = ExportedCall.None
 with_quality k ExportedCall.FrameStart = ExportedCall.FrameStart
 with_quality k (ExportedCall.OutboundSeen start time cca) = ExportedCall.OutboundSeen start time cca
@@ -143,7 +149,9 @@ abbrev pub uses_quality : ℕ → Bool
 uses_quality code = eqb code 2 || eqb code 4
 
 abbrev pub quality_used : ExportedCall → Bool
-quality_used (ExportedCall.Request token direction start time buffer length cca) = false
+quality_used (ExportedCall.Arrive token direction start time buffer length cca) = false
+quality_used (ExportedCall.Withdraw token) = false
+quality_used ExportedCall.Request = false
 quality_used ExportedCall.None = false
 quality_used ExportedCall.FrameStart = false
 quality_used (ExportedCall.OutboundSeen start time cca) = false

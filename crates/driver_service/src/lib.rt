@@ -185,7 +185,7 @@ pub fn start(set: Settings, line: &mut Line, pool: &mut [u8]) -> Result<(State, 
     ensures { ServiceStarted set line.old pool.old (outcome_told (idle_of set) result) line.new pool.new }
 {
     let idle = driver::start(set, pool)?;
-    *line = Line::new();
+    line.clear();
     Ok(idle)
 }
 

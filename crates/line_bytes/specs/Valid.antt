@@ -1,6 +1,6 @@
 -- Which bytes are a line's, in a state: document 02, E1, refusal 1.
 -- Assumes nothing.
-use Rattle.std.specs.Prelude.{ℕ, ◌^◌, ◌<◌, ◌≤◌, ◌≡◌, ◌↔◌, ◌≢◌, Bool, true, false, cond, ◌&&◌, List, [], ◌∷◌, eqb, length, Option, Some, None}
+use Rattle.std.specs.Prelude.{ℕ, ◌^◌, ◌<◌, ◌≤◌, ◌≡◌, ◌↔◌, ◌≢◌, Bool, true, false, cond, ◌&&◌, List, [], ◌∷◌, eqb, length}
 use Rattle.util.specs.Bytes.{AllBytes}
 use Rattle.tasks.specs.declared.Request.{Request}
 use Rattle.tasks.specs.declared.State.{State}
@@ -25,19 +25,6 @@ line_fits s (q ∷ qs) = request_fits s q qs && line_fits s qs
 -- the bytes read as a line that fits, and that line is written as them
 unfoldable pub holds_line : State → List ℕ → Bool
 holds_line s bytes = line_fits s (line_at bytes) && same_list (written_line (line_at bytes)) bytes
-
-unfoldable pub decoded_line_of : State → List ℕ → Option (List Request)
-decoded_line_of s bytes = cond (holds_line s bytes) (Some (line_at bytes)) None
-
--- the refusal number of each case
-unfoldable pub decoded_line_refusal : Option (List Request) → ℕ
-decoded_line_refusal (Some l) = 0
-decoded_line_refusal None = 1
-
--- what decode answers: the case, and the document's number for it
-pub record DecodesLine (s : State) (bytes : List ℕ) (r : Option (List Request)) : Type 0 where
-  pub case : r ≡ decoded_line_of s bytes
-  pub refusal : decoded_line_refusal r ≡ cond (holds_line s bytes) 0 1
 
 -- ---- Laws of these definitions; proofs/ReadBack.antt and proofs/InWords.antt have their proofs.
 

@@ -8,10 +8,11 @@ use Rattle.exported.proofs.call.Goals as goal
 pub returns-in_err-s : goal.returns-in_err-s
 returns-in_err-s c =
     let a = c.args in
-    let e = read_err _ c.in_err-s.ensures.case in
-    rw (handed_on _ c.from_residual.ensures.1, e.1) (not_done a.state.now a.reply.now a.pool.now a.x e.0)
+    let e = read_err a.state.now a.line.now _ c.in_err-s.ensures.case in
+    rw (handed_on _ c.from_residual.ensures.1, e.1) (not_done a.state.now a.line.now a.reply.now a.pool.now a.x e.0)
 
 pub returns : goal.returns
 returns c =
     let a = c.args in
-    done a.state.now a.reply.now a.pool.now a.x _ (read_ok _ c.in_ok-s.ensures.case) _ _ _ _ _ c.made.ensures.outcome c.made.ensures.pool (c.finish.ensures c.in_ok-s.s)
+    done a.state.now a.line.now a.reply.now a.pool.now a.x (read_ok a.state.now a.line.now _ c.in_ok-s.ensures.case) c.in_ok-s.ensures.line
+    _ _ _ _ _ _ _ c.made-told.ensures (c.finish.ensures c.in_ok-s.s)

@@ -111,6 +111,20 @@ call_of (ExportedCall.Fallback result length time cause causeTime quality) =
     ServiceCall.Fallback (result_of length time quality result) (cause_of causeTime cause)
 call_of ExportedCall.Rollback = ServiceCall.Rollback
 
+-- the calls by which a request comes into the line or leaves it
+unfoldable pub changes_line : ExportedCall → Bool
+changes_line (ExportedCall.Arrive token direction start time buffer length cca) = true
+changes_line (ExportedCall.Withdraw token) = true
+changes_line ExportedCall.Request = true
+changes_line ExportedCall.None = false
+changes_line ExportedCall.FrameStart = false
+changes_line (ExportedCall.OutboundSeen start time cca) = false
+changes_line (ExportedCall.Stopped outcome length time quality) = false
+changes_line (ExportedCall.Header arrived length) = false
+changes_line (ExportedCall.Entered result length time entry quality) = false
+changes_line (ExportedCall.Fallback result length time cause causeTime quality) = false
+changes_line ExportedCall.Rollback = false
+
 -- the settings of a start
 unfoldable pub settings_of : StartNumbers → Settings
 settings_of n =

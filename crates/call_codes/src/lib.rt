@@ -3,7 +3,7 @@
 
 ghost use Rattle.std.specs.Bool.{then_some};
 ghost use Rattle.std.specs.Prelude.{◌≡◌, ◌&&◌, ◌||◌, eqb};
-ghost use Rattle.call_codes.specs.Codes.{timestamp_table, timestamp_of, task_table, task_of, received_of, stop_table, stop_of, result_table, result_of, cause_table, cause_of, known, known_flag, known_of, call_of, settings_of};
+ghost use Rattle.call_codes.specs.Codes.{timestamp_table, timestamp_of, task_table, task_of, received_of, stop_table, stop_of, result_table, result_of, cause_table, cause_of, known, known_flag, known_of, call_of, changes_line, settings_of};
 
 use radio_frame::Settings;
 use service::ServiceCall;
@@ -160,6 +160,19 @@ impl ExportedCall {
                 ),
             ExportedCall::Rollback => ServiceCall::Rollback,
         })
+    }
+}
+
+impl ExportedCall {
+    // The calls that can change the line; all others leave it as it is.
+    #[tactic(auto, unfolding(crate::specs::Codes::changes_line))]
+    pub fn changes_line(self) -> bool
+        ensures { result ≡ changes_line self }
+    {
+        matches!(
+            self,
+            ExportedCall::Arrive(_, _, _, _, _, _, _) | ExportedCall::Withdraw(_) | ExportedCall::Request
+        )
     }
 }
 

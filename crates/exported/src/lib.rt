@@ -22,8 +22,11 @@ pub fn call(
 {
     let mut waiting = Line::new();
     let s = slices::read(state, line, reply.len(), &mut waiting)?;
-    let told = outcomes::made(s, &mut waiting, pool, x);
-    slices::finish(told, &waiting, state, line, reply)
+    slices::finish(outcomes::made(s, &mut waiting, pool, x), state, reply)?;
+    if x.changes_line() {
+        slices::write_line(&waiting, line);
+    }
+    Ok(())
 }
 
 // A start over bytes; what stands in the line slice is not read.
@@ -40,6 +43,7 @@ pub fn start(
         return Err(Refusal::Slices);
     }
     let mut waiting = Line::new();
-    let told = outcomes::begun(n, &mut waiting, pool);
-    slices::finish(told, &waiting, state, line, reply)
+    slices::finish(outcomes::begun(n, &mut waiting, pool), state, reply)?;
+    slices::write_line(&waiting, line);
+    Ok(())
 }

@@ -1,13 +1,14 @@
 // What an exported call or start comes to: the service's, or the refusal where a code stands for nothing.
 #![tactic(auto)]
 
-ghost use Rattle.std.specs.Prelude.{◌≡◌, List};
-ghost use Rattle.tasks.specs.declared.Request.{Request};
+ghost use Rattle.std.specs.Prelude.{◌≡◌, cond, eqb};
+ghost use Rattle.refusals.specs.Refusals.{refusal_number};
+ghost use Rattle.radio_frame.specs.Settings.{settings_refusal};
 ghost use Rattle.driver.specs.Promises.{idle_of};
 ghost use Rattle.driver_service.specs.Promises.{served};
 ghost use Rattle.engine.specs.Step.{outcome_told};
 ghost use Rattle.call_codes.specs.Codes.{settings_of};
-ghost use Rattle.outcomes.specs.Outcomes.{unknown_of, made_of, unknown_start, begun_of};
+ghost use Rattle.outcomes.specs.Outcomes.{or_five, made_of, begun_of};
 
 use call_codes::{ExportedCall, StartNumbers};
 use radio_frame::Settings;
@@ -15,17 +16,18 @@ use refusals::Refusal;
 use tasks::{Reply, State};
 use waiting_line::Line;
 
-// A code that stands for nothing: 2 to 4 come first, then 5.
-#[tactic(auto, using(refusals::proofs::Refusals::not_zero), unfolding(crate::specs::Outcomes::unknown_of))]
-fn unknown(s: State, pool: &[u8]) -> Result<(State, Reply), Refusal>
-    ensures { (qs : List Request) → served (outcome_told s result) qs pool.now ≡ unknown_of s qs pool.now }
+// Of a code that stands for nothing: 2 to 4 come first, then 5.
+#[tactic(auto, unfolding(crate::specs::Outcomes::or_five))]
+fn unknown(s: State, pool: usize) -> Refusal
+    ensures { refusal_number result ≡ or_five (settings_refusal s.set pool) }
 {
-    radio_frame::check_settings(s.set, pool.len())?;
-    Err(Refusal::Unfit)
+    radio_frame::check_settings(s.set, pool)
+        .err()
+        .unwrap_or(Refusal::Unfit)
 }
 
 // A call: the service's, if all its codes stand for something.
-#[tactic(auto, unfolding(crate::specs::Outcomes::made_of))]
+#[tactic(auto, unfolding(crate::specs::Outcomes::made_of, crate::specs::Outcomes::unknown_of))]
 pub fn made(
     s: State,
     line: &mut Line,
@@ -36,29 +38,28 @@ pub fn made(
 {
     match x.call() {
         Some(c) => driver_service::step(s, line, pool, c),
-        None => unknown(s, pool),
+        None => Err(unknown(s, pool.len())),
     }
 }
 
-// A code that stands for nothing at start: 2 comes first, then 3.
-#[tactic(auto, unfolding(crate::specs::Outcomes::unknown_start))]
-fn unknown_start(set: Settings, pool: &[u8]) -> Result<(State, Reply), Refusal>
-    ensures { (qs : List Request) → served (outcome_told (idle_of set) result) qs pool.now ≡ unknown_start set qs pool.now }
+// Of a code that stands for nothing at start: 2 comes first, then 3.
+fn unknown_start(set: Settings, pool: usize) -> Refusal
+    ensures { refusal_number result ≡ cond (eqb (settings_refusal set pool) 2) 2 3 }
 {
-    match radio_frame::check_settings(set, pool.len()) {
-        Err(Refusal::Pool) => Err(Refusal::Pool),
-        _ => Err(Refusal::Lengths),
+    match radio_frame::check_settings(set, pool) {
+        Err(Refusal::Pool) => Refusal::Pool,
+        _ => Refusal::Lengths,
     }
 }
 
 // A start: the service's, if its code stands for something.
-#[tactic(auto, unfolding(crate::specs::Outcomes::begun_of))]
+#[tactic(auto, unfolding(crate::specs::Outcomes::begun_of, crate::specs::Outcomes::unknown_start))]
 pub fn begun(n: StartNumbers, line: &mut Line, pool: &mut [u8]) -> Result<(State, Reply), Refusal>
     ensures { served (outcome_told (idle_of (settings_of n)) result) line.new pool.new ≡ begun_of n line.old pool.old }
 {
     if n.implicit_broadcast < 2 {
         driver_service::start(n.settings(), line, pool)
     } else {
-        unknown_start(n.settings(), pool)
+        Err(unknown_start(n.settings(), pool.len()))
     }
 }

@@ -11,6 +11,7 @@ use mathlib.Core.List.{List}
 use lib.Dec.{eqb}
 use lib.ListN.{length}
 use borrow.Author.Tests.{eqb-true}
+use Rattle.util.specs.Bytes.{stored_over}
 use Rattle.util.proofs.Stores.{over}
 use Rattle.engine.specs.Step.{Outcome}
 use Rattle.state_bytes.specs.Layout.{state_at, written_state}
@@ -33,22 +34,23 @@ lengths state line reply h =
     (eqb-true _ _ f.0, (eqb-true _ _ g.0, eqb-true _ _ g.1))
 
 -- where the lengths are right, an accepted outcome is written and a refused one is not
-pub record Settled (o : Outcome) (qs : List Request) (st li re : List ℕ) (r : ℕ) (st' li' re' : List ℕ) : Type 0 where
+pub record Settled (o : Outcome) (st re : List ℕ) (r : ℕ) (st' re' : List ℕ) : Type 0 where
   pub result : r ≡ o.refusal
   pub state : st' ≡ if_accepted o.refusal (written_state o.state) st
-  pub line : li' ≡ if_accepted o.refusal (written_line qs) li
   pub reply : re' ≡ if_accepted o.refusal (written_reply o.reply) re
 
-pub settled : (o : Outcome) (qs : List Request) (st li re : List ℕ) (r : ℕ) (st' li' re' : List ℕ)
-    → slices_fit (length st) (length li) (length re) ≡ true → Finished o qs st li re r st' li' re' → Settled o qs st li re r st' li' re'
-settled o qs st li re r st' li' re' ok F =
-    let L = lengths (length st) (length li) (length re) ok in
-    record {
-      result = F.result;
-      state = F.state ∙ ap (λ (l : List ℕ). if_accepted o.refusal l st) (over (written_state o.state) st (state_length o.state ∙ sym L.0));
-      line = F.line ∙ ap (λ (l : List ℕ). if_accepted o.refusal l li) (over (written_line qs) li (line_length qs ∙ sym L.1.0));
-      reply = F.reply ∙ ap (λ (l : List ℕ). if_accepted o.refusal l re) (over (written_reply o.reply) re (reply_length o.reply ∙ sym L.1.1));
-    }
+module _ (st li re : List ℕ) (ok : slices_fit (length st) (length li) (length re) ≡ true) where
+  pub settled : (o : Outcome) (r : ℕ) (st' re' : List ℕ) → Finished o st re r st' re' → Settled o st re r st' re'
+  settled o r st' re' F =
+      let L = lengths (length st) (length li) (length re) ok in
+      record {
+        result = F.result;
+        state = F.state ∙ ap (λ (l : List ℕ). if_accepted o.refusal l st) (over (written_state o.state) st (state_length o.state ∙ sym L.0));
+        reply = F.reply ∙ ap (λ (l : List ℕ). if_accepted o.refusal l re) (over (written_reply o.reply) re (reply_length o.reply ∙ sym L.1.1));
+      }
+
+  pub line_stored : (qs : List Request) → stored_over (written_line qs) li ≡ written_line qs
+  line_stored qs = let L = lengths (length st) (length li) (length re) ok in over (written_line qs) li (line_length qs ∙ sym L.1.0)
 
 -- ---- Reading
 pub form_lengths : (st li : List ℕ) (n : ℕ) → form_ok st li n ≡ true → slices_fit (length st) (length li) n ≡ true

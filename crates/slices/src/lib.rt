@@ -8,7 +8,8 @@ ghost use Rattle.engine.specs.Step.{outcome_told};
 ghost use Rattle.tasks.specs.declared.State.{State};
 ghost use Rattle.slices.specs.Slices.{slices_fit, form_ok};
 ghost use Rattle.slices.specs.Inner.{read_of, Finished};
-ghost use Rattle.line_bytes.specs.Layout.{line_at};
+ghost use Rattle.util.specs.Bytes.{stored_over};
+ghost use Rattle.line_bytes.specs.Layout.{line_at, written_line};
 
 use refusals::Refusal;
 use tasks::{Reply, State};
@@ -43,22 +44,26 @@ pub fn read(
     Ok(s)
 }
 
-// Writes state, line and reply of an accepted outcome.
+// Writes state and reply of an accepted outcome.
 pub fn finish(
     outcome: Result<(State, Reply), Refusal>,
-    waiting: &Line,
     state: &mut [u8],
-    line: &mut [u8],
     reply: &mut [u8],
 ) -> Result<(), Refusal>
-    ensures { (s : State) → Finished (outcome_told s outcome) waiting.now state.old line.old reply.old (number_of result) state.new line.new reply.new }
+    ensures { (s : State) → Finished (outcome_told s outcome) state.old reply.old (number_of result) state.new reply.new }
 {
     let (next, answer) = outcome?;
     let new_state = state_bytes::encode(next);
-    let new_line = line_bytes::encode(waiting);
     let new_reply = reply_bytes::encode(answer);
     util::store(&new_state, state);
-    util::store(&new_line, line);
     util::store(&new_reply, reply);
     Ok(())
+}
+
+// Writes the line into its slice.
+pub fn write_line(waiting: &Line, line: &mut [u8])
+    ensures { line.new ≡ stored_over (written_line waiting.now) line.old }
+{
+    let new_line = line_bytes::encode(waiting);
+    util::store(&new_line, line);
 }

@@ -9,7 +9,7 @@ use mathlib.Core.List.{List, [], ◌∷◌}
 use lib.Dec.{eqb}
 use lib.ListN.{length}
 use native.Mathlib.Omega.{arith}
-use borrow.Author.Tests.{eqb-true, eqb-false, eq-eqb}
+use borrow.Author.Tests.{eqb-true, eqb-false}
 use Rattle.util.specs.Bytes.{AllBytes}
 use Rattle.radio_frame.specs.Settings.{settings_refusal}
 use Rattle.radio_frame.proofs.Laws.{zero_if_fit}

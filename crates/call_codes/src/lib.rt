@@ -171,7 +171,9 @@ impl ExportedCall {
     {
         matches!(
             self,
-            ExportedCall::Arrive(_, _, _, _, _, _, _) | ExportedCall::Withdraw(_) | ExportedCall::Request
+            ExportedCall::Arrive(_, _, _, _, _, _, _)
+                | ExportedCall::Withdraw(_)
+                | ExportedCall::Request
         )
     }
 }

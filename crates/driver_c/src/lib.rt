@@ -173,7 +173,13 @@ pub extern "C" fn widosha_header(
 ) -> u8
     ensures { Called state.old line.old reply.old pool.old (ExportedCall.Header arrived length) result state.new line.new reply.new pool.new }
 {
-    refusals::number(exported::call(state, line, reply, pool, ExportedCall::Header(arrived, length)))
+    refusals::number(exported::call(
+        state,
+        line,
+        reply,
+        pool,
+        ExportedCall::Header(arrived, length),
+    ))
 }
 
 #[unsafe(no_mangle)]

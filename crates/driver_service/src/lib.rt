@@ -117,9 +117,9 @@ fn given(line: &Line, w: Wait, c: ServiceCall) -> Option<Call>
     match c {
         ServiceCall::None if !is_allowed_waiting(line, w) => Some(Call::None),
         ServiceCall::FrameStart => Some(Call::FrameStart),
-        ServiceCall::OutboundSeen(start, cca) if line.names_tx(start, cca) => Some(Call::OutboundSeen(
-            start, cca,
-        )),
+        ServiceCall::OutboundSeen(start, cca) if line.names_tx(start, cca) => Some(
+            Call::OutboundSeen(start, cca),
+        ),
         ServiceCall::Stopped(r) => Some(Call::Stopped(r)),
         ServiceCall::Header(arrived, length) => Some(Call::Header(arrived, length)),
         ServiceCall::Entered(r, entry) => Some(Call::Entered(r, entry)),

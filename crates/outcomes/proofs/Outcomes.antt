@@ -16,7 +16,7 @@ use Rattle.service.specs.declared.ServiceCall.{ServiceCall}
 use Rattle.service.specs.Service.{Served, service_of, service_start}
 use Rattle.service.specs.Refusals.{service_fits, service_later, service_refusal, ServiceInOrder, ServiceRefusedUnchanged}
 use Rattle.service.proofs.Refusals.{service_in_order, service_refused_unchanged}
-use Rattle.service.proofs.Cases.{OnLine, arrives, withdraws, Case, refused, on_line, given, taken, service_case}
+use Rattle.service.proofs.Cases.{arrives, withdraws, Case, refused, on_line, given, taken, service_case}
 use Rattle.call_codes.specs.declared.ExportedCall.{ExportedCall}
 use Rattle.call_codes.specs.declared.StartNumbers.{StartNumbers}
 use Rattle.call_codes.specs.Codes.{known_flag, known_of, call_of, changes_line, settings_of}

@@ -6,7 +6,7 @@ use Rattle.std.specs.Prelude.{Ok, Err, ok_or}
 use Rattle.std.proofs.Common.{Option, Some, None, ℕ, arith}
 use Prim.Native.Nat.{ℕ}
 use mathlib.Core.Path.{◌≡◌, refl, sym, ◌∙◌, ap}
-use mathlib.Core.Bool.{Bool, true, false, cond, ◌&&◌}
+use mathlib.Core.Bool.{Bool, true, false, ◌&&◌}
 use mathlib.Core.List.{List}
 use lib.Dec.{eqb}
 use lib.ListN.{length}
@@ -16,7 +16,7 @@ use Rattle.util.proofs.Stores.{over}
 use Rattle.engine.specs.Step.{Outcome}
 use Rattle.state_bytes.specs.Layout.{state_at, written_state}
 use Rattle.state_bytes.specs.Valid.{holds_state}
-use Rattle.line_bytes.specs.Layout.{line_at, written_line}
+use Rattle.line_bytes.specs.Layout.{written_line}
 use Rattle.line_bytes.specs.Valid.{holds_line}
 use Rattle.std.proofs.lemmas.Bool.{and_parts}
 use Rattle.reply_bytes.specs.Reply.{written_reply}

@@ -24,12 +24,7 @@ pub fn slices_fit(state: usize, line: usize, reply: usize) -> bool
 
 // The state that the slices hold, unless a length is wrong, and the line, in one that is lent.
 #[tactic(auto, using(crate::proofs::Slices::number_of_or), unfolding(crate::specs::Inner::read_of, crate::specs::Slices::form_ok, state_bytes::specs::Valid::decoded_of))]
-pub fn read(
-    state: &[u8],
-    line: &[u8],
-    reply: usize,
-    waiting: &mut Line,
-) -> Result<State, Refusal>
+pub fn read(state: &[u8], line: &[u8], reply: usize, waiting: &mut Line) -> Result<State, Refusal>
     ensures case { result ≡ ok_or (read_of state.now line.now reply) Refusal.Slices }
     ensures refusal { number_of result ≡ cond (form_ok state.now line.now reply) 0 1 }
     ensures line { IfOk result (λ s. waiting.new ≡ line_at line.now) }

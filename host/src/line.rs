@@ -10,7 +10,8 @@ const RECORD_LENGTH: usize = LINE_LENGTH / LINE_CAPACITY;
 
 /// The requests that wait, the earliest arrival first: up to the first record that is free.
 pub(crate) fn waiting(line: &[u8; LINE_LENGTH]) -> impl Iterator<Item = Request> + '_ {
-    line.chunks_exact(RECORD_LENGTH).map_while(|record| request(record.first_chunk()?))
+    line.chunks_exact(RECORD_LENGTH)
+        .map_while(|record| request(record.first_chunk()?))
 }
 
 /// None for a free record, and for a kind that docs/LAYOUTS.md does not have. Bytes that the kind or the start leaves unused are
@@ -66,10 +67,7 @@ mod tests {
                 token: 5,
                 start: Timestamp::BestEffort,
                 buffer: 8,
-                task: Task::Tx {
-                    length: 125,
-                    cca: false,
-                },
+                task: Task::Tx { length: 125, cca: false },
             },
             Request {
                 token: 6,

@@ -223,7 +223,7 @@ fn weigh_right_after(world: &mut World, instead: &Air) {
     world.show = Show::Nothing;
     world.plan_event(1_050, Event::Want(HubA, Wanted::Receive));
     world.plan_event(1_240, Event::Want(CellA, Wanted::Send(weighing)));
-    assert!(instead.is_busy(1_240 * MICROSECOND));
+    assert!(instead.is_busy(1_240 * MICROSECOND, CellA));
     println!(
         "        Hub A now listens, and cell A weighs a box at 1240. Its channel check finds the air free, not four ACKs on it:"
     );

@@ -104,8 +104,6 @@ pub struct Station {
     /// The last action that there was: what the radio and the host are to do.
     pub action: Action,
     pub phase: Phase,
-    /// Whether the channel was clear when it was checked.
-    pub clear: bool,
     /// The buffer that the radio receives in.
     pub listens_in: u8,
     /// What the host wants that found no place in the line yet.
@@ -140,7 +138,6 @@ impl Station {
             driver,
             action: reply.action,
             phase: Phase::Off,
-            clear: true,
             listens_in: 1,
             kept_back: VecDeque::new(),
             open: Vec::new(),

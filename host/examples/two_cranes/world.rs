@@ -236,7 +236,6 @@ impl World {
             Spacing::After(Ifs::Aifs | Ifs::Sifs) => 192 * MICROSECOND,
             Spacing::After(Ifs::Lifs) => 640 * MICROSECOND,
         };
-        self.stations[i].clear = !self.air.is_busy(self.now);
         let earliest = match self.stations[i].phase {
             Phase::Off => self.now + TURNAROUND,
             Phase::Sending { end, .. } => end + pause,
@@ -303,7 +302,9 @@ impl World {
         let station = &mut self.stations[i];
         match station.action {
             Action::Tx { buffer, length, cca, .. } => {
-                if cca && !station.clear {
+                // The channel is checked when the radio begins to turn to sending.
+                if cca && self.air.is_busy(entry - TURNAROUND, station.who) {
+                    station.phase = Phase::Off;
                     let cause = Cause::Task;
                     return self.call(i, Call::Fallback { result, cause });
                 }

@@ -125,13 +125,20 @@ impl World {
             self.show = Show::Nothing;
         }
         self.stations[i].want(wanted);
-        self.hosts_turns(i);
+        self.line_changed(i);
     }
 
     fn withdrawn(&mut self, who: Who, wanted: Wanted) {
         let i = self.station(who);
         self.stations[i].withdraw(wanted);
-        self.hosts_turns(i);
+        self.line_changed(i);
+    }
+
+    /// After the host has called by itself: the radio has its action already, unless this led to a new one.
+    fn line_changed(&mut self, i: usize) {
+        if self.host_turns(i) {
+            self.obey(i);
+        }
     }
 
     fn transmit(&mut self, from: Who, bytes: Vec<u8>) -> u64 {
@@ -147,23 +154,20 @@ impl World {
     fn call(&mut self, i: usize, call: Call) {
         let reply = self.stations[i].make(call);
         reply.expect("the radio makes no call that does not fit");
-        if !self.hosts_turns(i) {
-            self.obey(i);
-        }
+        self.host_turns(i);
+        self.obey(i);
     }
 
-    /// The host's turns, each after the answers of the calls before it. If they gave a new action, the radio obeys that.
-    fn hosts_turns(&mut self, i: usize) -> bool {
+    /// The host's turns, each after the answers of the calls before it. Says whether there is a new action for the radio.
+    fn host_turns(&mut self, i: usize) -> bool {
         let mut new_action = false;
         self.tell(i);
         while self.stations[i].host_turn() {
             new_action = true;
             self.tell(i);
         }
+        // Requests that were kept back may have arrived in the last turn too.
         self.tell(i);
-        if new_action {
-            self.obey(i);
-        }
         new_action
     }
 
@@ -244,12 +248,15 @@ impl World {
             Phase::Listening => panic!("the driver stops listening before it goes on"),
         };
         let time = match action {
-            Action::Tx { start, .. } | Action::Rx { start, .. } => start,
-            _ => Timestamp::BestEffort,
-        };
-        let time = match time {
-            Timestamp::BestEffort => earliest,
-            Timestamp::Scheduled(time) => time,
+            Action::Tx {
+                start: Timestamp::Scheduled(time),
+                ..
+            }
+            | Action::Rx {
+                start: Timestamp::Scheduled(time),
+                ..
+            } => time,
+            _ => earliest,
         };
         assert!(earliest <= time, "the times that the hub keeps free can be kept");
         self.put(time, Event::Due(i, action));

@@ -71,7 +71,7 @@ impl<const N: usize> DriverService<N> {
     pub fn arrive(&mut self, request: Request) -> Result<Reply, Refusal> {
         let (direction, length, cca) = request.task.numbers();
         let (start, time) = request.start.numbers();
-        self.call(|slices| raw::arrive(request.token, direction, start, time, request.buffer, length, cca, slices))
+        self.call_on_line(|slices| raw::arrive(request.token, direction, start, time, request.buffer, length, cca, slices))
     }
 
     /// The waiting request with this token leaves the line. It is not answered, and its buffer is the host's again.
@@ -79,7 +79,7 @@ impl<const N: usize> DriverService<N> {
     /// This fits every wait, and its reply is as that of `arrive`. A request that has left the line cannot be withdrawn, nor the Tx
     /// that `outbound_seen` named while its stop or its ask is open (13).
     pub fn withdraw(&mut self, token: u32) -> Result<Reply, Refusal> {
-        self.call(|slices| raw::withdraw(token, slices))
+        self.call_on_line(|slices| raw::withdraw(token, slices))
     }
 
     /// Where a request is waited or asked for: the earliest arrival whose direction and start the wait allows is taken from the line.
@@ -208,6 +208,18 @@ impl<const N: usize> DriverService<N> {
     }
 
     fn call(&mut self, function: impl FnOnce(Slices<'_>) -> u8) -> Result<Reply, Refusal> {
+        self.decoded(function, Reply::decode)
+    }
+
+    fn call_on_line(&mut self, function: impl FnOnce(Slices<'_>) -> u8) -> Result<Reply, Refusal> {
+        self.decoded(function, Reply::decode_on_line)
+    }
+
+    fn decoded(
+        &mut self,
+        function: impl FnOnce(Slices<'_>) -> u8,
+        decode: fn(&[u8; REPLY_LENGTH]) -> Option<Reply>,
+    ) -> Result<Reply, Refusal> {
         let mut reply = [0; REPLY_LENGTH];
         let number = function(Slices {
             state: &mut self.state,
@@ -216,7 +228,7 @@ impl<const N: usize> DriverService<N> {
             pool: self.pool.bytes_mut(),
         });
         match Refusal::of(number) {
-            None => Reply::decode(&reply).ok_or(Refusal::Unknown(number)),
+            None => decode(&reply).ok_or(Refusal::Unknown(number)),
             Some(refusal) => Err(refusal),
         }
     }

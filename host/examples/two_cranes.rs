@@ -257,7 +257,7 @@ const LINE_OF_B: [(&str, u8, &str); 16] = [
 ];
 
 fn full_line() {
-    title("8. Cell B was out of hearing. Its line: four wait, a fifth is told 12, one is withdrawn, and B4 passes B3, which has a time.");
+    title("8. Cell B was out of hearing. Four wait, a fifth is told 12, one is withdrawn, and box B4 passes B3, which has a time.");
     let stations = vec![Station::new(HubB, 0xB00B, 0x0B00), Station::new(CellB, 0xB00B, 0x0B01)];
     let mut world = World::new(stations);
     world.scene(Show::AllCallsOf(CellB));

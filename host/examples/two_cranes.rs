@@ -285,9 +285,11 @@ fn full_line() {
     world.run();
     check_line(&world);
     check_left(&world, [b4, b3, b6]);
-    println!("        While it sends the report, which wants no ACK, only what has no time may follow: box B4 passed B3, which left at the");
     println!(
-        "        next ask and had its time. Box B5 was set down again and never was on the air; its place was free for box B6."
+        "        While it sends the report, which wants no ACK, only what has no time may follow: box B4 passed B3, which left at"
+    );
+    println!(
+        "        the next ask and had its time. Box B5 was set down again and never was on the air; its place was free for box B6."
     );
 }
 

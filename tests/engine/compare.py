@@ -3,8 +3,8 @@
     compare.py OURS ORACLE LIST [CALLS [SEED [ALSO]]]
 
 OURS is a replay program of docs/REPLAY-FORMAT.md, ORACLE the oracle of ../shared/oracle, LIST the file that lists the classes of
-differences (lines 'Engine class `NAME`', each followed by its smallest script). ALSO is another replay program: on the records of the
-first walk it must print what OURS prints.
+differences (lines 'Engine class `NAME`', each followed by its smallest script). ALSO is another replay program: on the same records it
+must print what OURS prints.
 
 Ends with 0 only if every reply, every pool byte and every byte of the line that is shown is the same on all sides, or the difference is
 in a listed class, every listed class occurs, every call is made in every wait, in every wait there are 0 to 4 that wait in the line,
@@ -369,7 +369,7 @@ def main():
                 check_scripts(programs, what, listed(path, what))
         while (tally.asked if programs[1] else tally.calls) < calls:
             chunk(programs, "%d/%d" % (seed, index), CHUNK, tally, also)
-            index, also = index + 1, None
+            index += 1
         check_coverage(tally)
         if programs[1]:
             check_classes(tally, classes, path)
@@ -379,7 +379,8 @@ def main():
         return 1
     report(tally, time.time() - begin)
     against = "the Rust's and the model's, but for the listed classes" if programs[1] else "the model's"
-    print("seed %d, %d walks of %d calls: all replies and pool bytes are %s" % (seed, index, CHUNK, against))
+    print("seed %d, %d walks of %d calls: all replies and bytes are %s%s" % (
+        seed, index, CHUNK, against, "; a second program prints the same" if also else ""))
     return 0
 
 

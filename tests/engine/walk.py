@@ -166,10 +166,12 @@ class Walk:
         for place in range(0, 144 * m.n, 48):
             self.put(("dump", place), reply=bytes(m.pool[place:place + 48]), asked=place == 0)
 
+    def show_line(self, place):
+        self.put(("line", place), reply=self.model.line_bytes()[place:place + 48])
+
     def dump_line(self):
-        data = self.model.line_bytes()
         for place in range(0, LINE_BYTES, 48):
-            self.put(("line", place), reply=data[place:place + 48])
+            self.show_line(place)
 
     def dump_ack(self, group=None, rust=None):
         m = self.model
@@ -193,17 +195,19 @@ class Walk:
         call = self.settings()
         self.model.other(("clear",))
         self.put(("clear",))
-        cases, waiting = self.cases.of(self.model, call, 0), len(self.model.line)
-        reply = self.model.start(call)
-        assert reply[0] == 0
-        self.put(call, reply=reply, wait="start", asked=True, cases=cases, waiting=waiting)
-        self.calls += 1
+        self.note_start(call, asked=True)
+        assert self.items[-1].reply[0] == 0
         self.over = False
         self.busy, self.rx, self.timed = self.random.choice(TRAFFIC)
-        if cases and self.chance(20):
+        if self.items[-1].cases and self.chance(20):
             self.dump_line()
         if self.chance(3):
             self.spoil_ack()
+
+    def note_start(self, call, **rest):
+        cases = self.cases.of(self.model, call, settings_refusal(call, call[10]))
+        self.put(call, reply=self.model.start(call), wait="start", cases=cases, **rest)
+        self.calls += 1
 
     def spoil_ack(self):
         """The host writes into the ACK buffer's frame."""
@@ -244,13 +248,10 @@ class Walk:
             group = "start-count" if not 3 <= n <= 32 else "start-own-buffers"
             rust = (0, ("idle",), ())
             self.over = True
-        refusal = settings_refusal(call, length)
-        if not refusal:
+        if not settings_refusal(call, length):
             return
-        cases, waiting = self.cases.of(self.model, call, refusal), len(self.model.line)
-        self.put(call, reply=self.model.start(call), wait="start", asked=asked, group=group, rust=rust, cases=cases, waiting=waiting)
-        self.calls += 1
-        if cases and self.chance(20) and not self.over:
+        self.note_start(call, asked=asked, group=group, rust=rust)
+        if self.items[-1].cases and self.chance(20) and not self.over:
             self.dump_line()
 
     # ---- frames

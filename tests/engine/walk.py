@@ -519,10 +519,9 @@ class Walk:
         return None
 
     def passed(self, call, refusal):
-        """The arrival that the Rust's queue would hand over first, at an accepted call in a wait that does not allow it. (In the ask
-        after a window the Rust asks for an outbound request, and its queue passes the others as the line does.)"""
+        """The earliest arrival, at an accepted call in a wait that does not allow it: what the Rust's queue would hand over first."""
         m = self.model
-        if refusal or call[0] not in ("request", "none") or m.wait == "ask-window" or not m.line or m.allows(m.line[0]):
+        if refusal or call[0] not in ("request", "none") or not m.line or m.allows(m.line[0]):
             return None
         return m.line[0]
 
@@ -623,9 +622,11 @@ class Walk:
         return ack_before
 
     def hand_over_first(self, q):
-        """The Rust alone gets what its queue would hand over first, panics, and goes on as before."""
-        panics = (9, None, ())
-        self.put(("request",), reply=panics, asked=True, ours=False, group="queue-timed-" + q.direction, rust=panics, handed=q.call())
+        """The Rust alone gets what its queue would hand over first, panics, and goes on as before. In the ask after a window it asks
+        for an outbound request: an Rx is none, and its queue passes it as the line does."""
+        refused = (9, None, ())
+        group = None if self.model.wait == "ask-window" else "queue-timed-" + q.direction
+        self.put(("request",), reply=refused, asked=True, ours=False, group=group, rust=refused, handed=q.call())
 
     def bring_back(self, call, reply, at, ack_before):
         """The Rust has begun the ACK turn of a broadcast. Rollback takes it back to listening, its ACK frame is made what it was,

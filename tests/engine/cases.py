@@ -13,7 +13,8 @@ ARRIVE = tuple("Arrive, %d wait" % k for k in range(CAPACITY)) + (
 WITHDRAW = (
     "Withdraw of the only one", "Withdraw of the first", "Withdraw from between", "Withdraw of the last",
     "Withdraw of another Tx, the named one's stop open", "Withdraw of another Tx, the ask after its window open",
-    "Withdraw of the once named, as the stop failed", "Withdraw of the once named, as a frame started",
+    "Withdraw of the once named, as the stop failed", "Withdraw of the once named, the frame's header to come",
+    "Withdraw of the once named, later",
     "Withdraw 13: never there", "Withdraw 13: it has left", "Withdraw 13: it was withdrawn",
     "Withdraw 13: the named, its stop open", "Withdraw 13: the named, the ask after its window open",
 )
@@ -41,7 +42,7 @@ class Cases:
     def __init__(self):
         self.withdrawn = []     # requests
         self.at_arrival = {}    # by token: what would have been noted of those that wait
-        self.once = None        # the Tx that OutboundSeen named and that was not taken, and why
+        self.once = None        # the Tx that OutboundSeen named last and that was not taken
 
     def of(self, m, call, refusal):
         return list(getattr(self, call[0], self.other)(m, call, refusal))
@@ -109,13 +110,13 @@ class Cases:
                              else "from between")
         if where and q.direction == "tx":
             yield "Withdraw of another Tx, the %s open" % ("named one's stop" if where == "stop" else where)
-        if self.once and self.once[0] is q:
-            yield "Withdraw of the once named, as " + self.once[1]
+        if self.once is q:
+            yield "Withdraw of the once named, " + {"listening": "as the stop failed", "header": "the frame's header to come"}.get(m.wait, "later")
         self.withdrawn.append(q)
 
     def stopped(self, m, call, refusal):
         if not refusal and m.wait == "stop-outbound" and call[1] != "ended":
-            self.once = (m.named, "the stop failed" if call[1] == "failed" else "a frame started")
+            self.once = m.named
         return ()
 
     def request(self, m, call, refusal):

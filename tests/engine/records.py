@@ -302,7 +302,8 @@ def word_result(word):
 
 
 def from_script(text):
-    """The tuples of a line of the script; a pool write of more than 16 bytes gives several."""
+    """The tuples of a line of the script; a pool write of more than 16 bytes gives several, and so does a request with fields, which
+    the oracle has: it arrives, is taken, and does not stay if it was not."""
     words = text.split("#")[0].split()
     if not words:
         return []
@@ -317,6 +318,8 @@ def from_script(text):
     if what == "arrive":
         head = (what, int(words[1]), words[2], word_start(words[3]), int(words[4]))
         return [head + (int(words[5]), int(words[6]))] if words[2] == "tx" else [head]
+    if what == "request" and len(words) > 1:
+        return from_script(text.replace("request", "arrive", 1)) + [("request",), ("withdraw", int(words[1]))]
     if what == "outbound":
         return [(what, word_start(words[1]), int(words[2]))]
     if what == "stopped":

@@ -40,6 +40,9 @@ class Cases:
     """Which of the cases each call is, asked before it is made; keeps what has become of requests since the start."""
 
     def __init__(self):
+        self.forget()
+
+    def forget(self):
         self.withdrawn = []     # requests
         self.at_arrival = {}    # by token: what would have been noted of those that wait
         self.once = None        # the Tx that OutboundSeen named last and that was not taken
@@ -54,7 +57,7 @@ class Cases:
         if m.line:
             yield "a refused start, some wait" if refusal else "start empties the line"
         if not refusal:
-            self.__init__()
+            self.forget()
 
     def arrive(self, m, call, refusal):
         token, buffer, four = call[1], call[4], len(m.line) == CAPACITY
@@ -111,7 +114,8 @@ class Cases:
         if where and q.direction == "tx":
             yield "Withdraw of another Tx, the %s open" % ("named one's stop" if where == "stop" else where)
         if self.once is q:
-            yield "Withdraw of the once named, " + {"listening": "as the stop failed", "header": "the frame's header to come"}.get(m.wait, "later")
+            places = {"listening": "as the stop failed", "header": "the frame's header to come"}
+            yield "Withdraw of the once named, " + places.get(m.wait, "later")
         self.withdrawn.append(q)
 
     def stopped(self, m, call, refusal):

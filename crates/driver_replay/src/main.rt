@@ -46,8 +46,7 @@ impl Session {
         &mut self.pool[..length.min(POOL)]
     }
 
-    // A refused start leaves the session as it was. The run is kept also where a call is refused, so that what the refused call did to it is
-    // seen.
+    // A refused start leaves the session as it was. The run is stored where a call is refused too, so that what that did to it is seen.
     fn start(&mut self, r: &Record) -> Result<Reply, Refusal> {
         let length = r.pool_length();
         let mut run = self.run;

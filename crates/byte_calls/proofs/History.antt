@@ -23,8 +23,9 @@ use Rattle.tasks.specs.declared.Timestamp.{Timestamp}
 use Rattle.tasks.specs.declared.Wait.{Wait}
 use Rattle.engine.specs.Step.{start_of}
 use Rattle.engine.proofs.History.{accepted_start}
-use Rattle.service.specs.Service.{Served, service_of, service_start}
+use Rattle.service.specs.Service.{Served, service_of, service_start, allowed_waits}
 use Rattle.service.specs.LineBook.{LineBook, start_line_book, line_book_step}
+use Rattle.service.specs.Lists.{is_empty, way_on_of}
 use Rattle.service.proofs.Kept.{LineKept}
 use Rattle.service.proofs.History.{service_keeps, begun, sound}
 use Rattle.state_bytes.specs.Layout.{state_at, written_state}
@@ -40,7 +41,8 @@ use Rattle.reply_bytes.specs.Reply.{reply_at, written_reply, TimestampFits, Caus
 use Rattle.reply_bytes.proofs.ReadBack.{reply_reads_back}
 use Rattle.call_codes.specs.declared.ExportedCall.{ExportedCall}
 use Rattle.call_codes.specs.declared.StartNumbers.{StartNumbers}
-use Rattle.call_codes.specs.Codes.{known_flag, timestamp_table, timestamp_of, task_table, task_of, result_table, result_of, cause_table, cause_of, known_of, call_of, settings_of}
+use Rattle.call_codes.specs.Codes.{known_flag, timestamp_table, timestamp_of, task_table, task_of, result_table, result_of, cause_table, cause_of, known_of, call_of, numbers_of, settings_of}
+use Rattle.call_codes.proofs.Calls.{every_call_has_numbers}
 use Rattle.slices.specs.Slices.{slices_fit, form_ok}
 use Rattle.outcomes.specs.Outcomes.{or_five, unknown_of, made_of, unknown_start, begun_of}
 use Rattle.byte_calls.specs.Calls.{call_result, call_state, call_line, call_reply, start_result, start_state, start_line}
@@ -48,7 +50,7 @@ use Rattle.byte_calls.specs.Lists.{Handed, last, others, handed_state, handed_li
 use Rattle.byte_calls.proofs.Ranges.{ResultIn, SettingsIn, StateIn}
 use Rattle.byte_calls.proofs.Served.{ServiceCallIn, ServedIn, service_in}
 use Rattle.byte_calls.proofs.Apart.{valid, fits, line_valid, at_most_four}
-use Rattle.byte_calls.proofs.Laws.{right_form}
+use Rattle.byte_calls.proofs.Laws.{right_form, between}
 
 -- ---- The numbers of an exported call are in range as the service's
 result_in : (length time quality code : ℕ) → time < 2 ^ 64 → ResultIn (result_of length time quality code)
@@ -157,6 +159,10 @@ module _ (s : State) (qs : List Request) (b : LineBook) (S : StateIn s) (Q : Eve
   line_back : line_at (written_line qs) ≡ qs
   line_back = line_reads_back qs sized_line
 
+  one_call : (re po : List ℕ) (x : ExportedCall) → length re ≡ 48 → known_of x ≡ true
+      → call_result (written_state s) (written_line qs) re po x ≡ (service_of s qs po (call_of x)).refusal
+  one_call re po x l k = (between s qs re po x (fits s S) (valid s b.book S K.kept) sized_line (line_valid s qs b K) l k).result
+
   module _ (re po : List ℕ) (x : ExportedCall) (N : NumbersFit x) (A : AllBytes po) (h : call_result (written_state s) (written_line qs) re po x ≡ 0) where
     abbrev r : Served
     r = service_of s qs po (call_of x)
@@ -248,6 +254,12 @@ byte_sound m I =
           rw (back, line)
           (rw (I.state_written, I.line_written)
           (read_back s qs m.book I.inside I.sized I.kept re po x N A (rw (I.state_written, I.line_written) at h)));
+      way_on =
+          λ re po l p.
+          let c = way_on_of s.set (is_empty qs) (allowed_waits qs s.wait) s.wait in
+          let N = every_call_has_numbers c in
+          let W = (sound (record { state = s; line = qs; book = m.book }) I.kept).way_on po p in
+          rw (back, line, I.state_written, I.line_written) (one_call s qs m.book I.inside I.sized I.kept re po (numbers_of c) l N.0 ∙ rw N.1 W);
     }
 
 -- ---- Start

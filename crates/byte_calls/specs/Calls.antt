@@ -1,13 +1,13 @@
 -- What an exported call or start returns, and every byte of the four slices after it: document 01, "Refusals, in checking order", and
 -- document 02, E1.
 -- Assumes nothing.
-use Rattle.std.specs.Prelude.{ℕ, ◌+◌, ◌≡◌, ◌↔◌, Bool, true, false, cond, not, ◌||◌, List, [], eqb, length, get_or, set}
+use Rattle.std.specs.Prelude.{ℕ, ◌+◌, ◌≡◌, ◌↔◌, Bool, true, false, cond, not, ◌||◌, List, [], eqb, length, get_or, set, replicate}
 use Rattle.util.specs.Bytes.{AllBytes}
 use Rattle.radio_frame.specs.Settings.{pool_unfit, rooms_unfit, own_buffers_unfit}
 use Rattle.tasks.specs.declared.Request.{Request}
 use Rattle.tasks.specs.declared.State.{State}
 use Rattle.tasks.specs.Quality.{Quality, no_quality, link_quality}
-use Rattle.service.specs.Service.{Served, service_of}
+use Rattle.service.specs.Service.{Served, service_of, is_on_line}
 use Rattle.service.specs.Refusals.{service_fits, service_later}
 use Rattle.state_bytes.specs.Layout.{state_at, written_state}
 use Rattle.state_bytes.specs.Valid.{valid_state, StateFits}
@@ -106,6 +106,10 @@ pub record Called (st li re po : List ℕ) (x : ExportedCall) (r : ℕ) (st' li'
       AllBytes st → AllBytes li → r ≡ 1 ↔ (RightForm st li (length re) → ⊥)
   -- .. and "state, pool, state slice and reply slice keep their bytes", and the line's slice its own
   pub unchanged : (r ≡ 0 → ⊥) → ((st' ≡ st) × (li' ≡ li)) × ((re' ≡ re) × (po' ≡ po))
+  -- a call on the line that is accepted changes "the line alone: no action for the radio, no answer, the wait stays"; every other accepted
+  -- call has an action
+  pub on_line : r ≡ 0 → is_on_line (call_of x) ≡ true → (st' ≡ st) × ((re' ≡ replicate 48 0) × (po' ≡ po))
+  pub acts : r ≡ 0 → is_on_line (call_of x) ≡ false → get_or re' 0 0 ≡ 0 → ⊥
   -- both answers of an accepted call carry the link quality that was told in it, where they have one
   pub qualities : r ≡ 0 → CarriesQuality x re' 12 × CarriesQuality x re' 30
 

@@ -1,17 +1,20 @@
 -- The third demand in the exported form: lists of exported calls, and the book that is kept from start's numbers, the calls'
 -- numbers, the pool as found, the returned number and the reply's bytes alone.
 -- Assumes nothing.
-use Rattle.std.specs.Prelude.{ℕ, ◌^◌, ◌<◌, ◌≡◌, true, false, List, [], ◌∷◌}
+use Rattle.std.specs.Prelude.{ℕ, ◌^◌, ◌<◌, ◌≡◌, true, false, List, [], ◌∷◌, length}
 use Rattle.util.specs.Bytes.{AllBytes}
-use Rattle.service.specs.Service.{service_of}
+use Rattle.tasks.specs.declared.Request.{Request}
+use Rattle.tasks.specs.declared.State.{State}
+use Rattle.radio_frame.specs.Settings.{settings_refusal}
+use Rattle.service.specs.Service.{service_of, allowed_waits}
 use Rattle.service.specs.LineBook.{LineBook, start_line_book, line_book_step}
-use Rattle.service.specs.Lists.{ServiceSound}
+use Rattle.service.specs.Lists.{is_empty, way_on_of, ServiceSound}
 use Rattle.state_bytes.specs.Layout.{state_at}
 use Rattle.line_bytes.specs.Layout.{line_at}
 use Rattle.reply_bytes.specs.Reply.{reply_at}
 use Rattle.call_codes.specs.declared.ExportedCall.{ExportedCall}
 use Rattle.call_codes.specs.declared.StartNumbers.{StartNumbers}
-use Rattle.call_codes.specs.Codes.{call_of, settings_of}
+use Rattle.call_codes.specs.Codes.{call_of, numbers_of, settings_of}
 use Rattle.byte_calls.specs.Calls.{call_result, call_state, call_line, call_reply}
 use Rattle.slices.specs.Slices.{form_ok}
 
@@ -105,6 +108,10 @@ pub record StartFits (n : StartNumbers) : Type 0 where
 
 -- ---- The claims
 
+-- the numbers of the call that is accepted next (`way_on_of`)
+abbrev pub way_on_numbers : State → List Request → ExportedCall
+way_on_numbers s qs = numbers_of (way_on_of s.set (is_empty qs) (allowed_waits qs s.wait) s.wait)
+
 -- after every call the slices hold a valid state and a line that fits it; of these and the book holds what the service's theorem claims;
 -- and the reply of whatever call is accepted next is read back from its bytes, so that they lose nothing of it
 pub record ByteSound (m : ByteMoment) : Type 0 where
@@ -116,6 +123,12 @@ pub record ByteSound (m : ByteMoment) : Type 0 where
       AllBytes po →
       call_result m.state m.line re po x ≡ 0 →
       reply_at (call_reply m.state m.line re po x) ≡ (service_of (state_at m.state) (line_at m.line) po (call_of x)).reply
+  -- no dead end: with a reply slice and a pool of the right length the exported call with these numbers returns 0
+  pub way_on :
+      (re po : List ℕ) →
+      length re ≡ 48 →
+      settings_refusal m.book.book.set (length po) ≡ 0 →
+      call_result m.state m.line re po (way_on_numbers (state_at m.state) (line_at m.line)) ≡ 0
 
 -- THE THIRD DEMAND in the exported form, of the state bytes st and the line bytes li that a start with the numbers n left and the number
 -- r that it returned: if it was accepted, then after every list of exported calls, wrong slices and codes that stand for nothing among

@@ -1,9 +1,11 @@
 -- What the numbers of an exported call stand for: docs/LAYOUTS.md, "Codes of the numbers".
 -- Assumes nothing.
 use Rattle.std.specs.Prelude.{ℕ, ◌≡◌, Bool, true, false, ◌&&◌, ◌||◌, List, [], ◌∷◌, ltb, eqb, get_or, length, Option, Some, None}
+use Rattle.util.specs.Bytes.{flag_number}
 use Rattle.radio_frame.specs.declared.Settings.{Settings}
 use Rattle.service.specs.declared.ServiceCall.{ServiceCall}
 use Rattle.tasks.specs.declared.Cause.{Cause}
+use Rattle.tasks.specs.declared.Request.{Request}
 use Rattle.tasks.specs.declared.RxResult.{RxResult}
 use Rattle.tasks.specs.declared.StopResult.{StopResult}
 use Rattle.tasks.specs.declared.Task.{Task}
@@ -111,20 +113,6 @@ call_of (ExportedCall.Fallback result length time cause causeTime quality) =
     ServiceCall.Fallback (result_of length time quality result) (cause_of causeTime cause)
 call_of ExportedCall.Rollback = ServiceCall.Rollback
 
--- the calls by which a request comes into the line or leaves it
-unfoldable pub changes_line : ExportedCall → Bool
-changes_line (ExportedCall.Arrive token direction start time buffer length cca) = true
-changes_line (ExportedCall.Withdraw token) = true
-changes_line ExportedCall.Request = true
-changes_line ExportedCall.None = false
-changes_line ExportedCall.FrameStart = false
-changes_line (ExportedCall.OutboundSeen start time cca) = false
-changes_line (ExportedCall.Stopped outcome length time quality) = false
-changes_line (ExportedCall.Header arrived length) = false
-changes_line (ExportedCall.Entered result length time entry quality) = false
-changes_line (ExportedCall.Fallback result length time cause causeTime quality) = false
-changes_line ExportedCall.Rollback = false
-
 -- the settings of a start
 unfoldable pub settings_of : StartNumbers → Settings
 settings_of n =
@@ -140,7 +128,63 @@ settings_of n =
       spare_buffer = n.spare_buffer;
     }
 
--- ---- A law of these definitions; proofs/Qualities.antt has its proof.
+-- ---- Laws of these definitions; proofs/Calls.antt and proofs/Qualities.antt have their proofs.
+
+-- The numbers that each call of the service is passed as, so that none is left without: code by code, and 0 for a number that the code
+-- leaves unused.
+
+abbrev pub start_code : Timestamp → ℕ
+start_code Timestamp.BestEffort = 0
+start_code (Timestamp.Scheduled t) = 1
+
+abbrev pub start_time : Timestamp → ℕ
+start_time Timestamp.BestEffort = 0
+start_time (Timestamp.Scheduled t) = t
+
+abbrev pub arrival_numbers : Request → Task → ExportedCall
+arrival_numbers q (Task.Tx length cca) =
+    ExportedCall.Arrive q.token 0 (start_code q.start) (start_time q.start) q.buffer length (flag_number cca)
+arrival_numbers q Task.Rx = ExportedCall.Arrive q.token 1 (start_code q.start) (start_time q.start) q.buffer 0 0
+
+-- code, length, time and quality of what a receive task came to; `make` is the call
+abbrev pub received_numbers : (ℕ → ℕ → ℕ → ℕ → ExportedCall) → RxResult → ExportedCall
+received_numbers make (RxResult.Frame length time quality) = make 2 length time quality
+received_numbers make RxResult.RxWindowEnded = make 3 0 0 0
+received_numbers make (RxResult.CrcError time quality) = make 4 0 time quality
+
+abbrev pub stop_numbers : StopResult → ExportedCall
+stop_numbers StopResult.FrameStarted = ExportedCall.Stopped 0 0 0 0
+stop_numbers StopResult.Failed = ExportedCall.Stopped 1 0 0 0
+stop_numbers (StopResult.RxWindowEnded r) =
+    received_numbers (λ code length time quality. ExportedCall.Stopped code length time quality) r
+
+abbrev pub result_numbers : (ℕ → ℕ → ℕ → ℕ → ExportedCall) → TaskResult → ExportedCall
+result_numbers make TaskResult.Off = make 0 0 0 0
+result_numbers make (TaskResult.Sent time) = make 1 0 time 0
+result_numbers make (TaskResult.Rx r) = received_numbers make r
+
+abbrev pub fallback_numbers : TaskResult → Cause → ExportedCall
+fallback_numbers r (Cause.Scheduling start) =
+    result_numbers (λ code length time quality. ExportedCall.Fallback code length time (start_code start) (start_time start) quality) r
+fallback_numbers r Cause.Task = result_numbers (λ code length time quality. ExportedCall.Fallback code length time 2 0 quality) r
+
+abbrev pub numbers_of : ServiceCall → ExportedCall
+numbers_of (ServiceCall.Arrive q) = arrival_numbers q q.task
+numbers_of (ServiceCall.Withdraw token) = ExportedCall.Withdraw token
+numbers_of ServiceCall.Request = ExportedCall.Request
+numbers_of ServiceCall.None = ExportedCall.None
+numbers_of ServiceCall.FrameStart = ExportedCall.FrameStart
+numbers_of (ServiceCall.OutboundSeen start cca) = ExportedCall.OutboundSeen (start_code start) (start_time start) (flag_number cca)
+numbers_of (ServiceCall.Stopped r) = stop_numbers r
+numbers_of (ServiceCall.Header arrived length) = ExportedCall.Header arrived length
+numbers_of (ServiceCall.Entered r entry) =
+    result_numbers (λ code length time quality. ExportedCall.Entered code length time entry quality) r
+numbers_of (ServiceCall.Fallback r cause) = fallback_numbers r cause
+numbers_of ServiceCall.Rollback = ExportedCall.Rollback
+
+-- every call of the service has numbers, whose codes stand for something, and which stand for it
+abbrev pub EveryCallHasNumbers : Type 0
+EveryCallHasNumbers = (c : ServiceCall) → (known_of (numbers_of c) ≡ true) × (call_of (numbers_of c) ≡ c)
 
 -- the same call with another number for the link quality
 abbrev pub with_quality : ℕ → ExportedCall → ExportedCall

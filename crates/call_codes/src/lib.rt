@@ -3,7 +3,8 @@
 
 ghost use Rattle.std.specs.Bool.{then_some};
 ghost use Rattle.std.specs.Prelude.{◌≡◌, ◌&&◌, ◌||◌, eqb};
-ghost use Rattle.call_codes.specs.Codes.{timestamp_table, timestamp_of, task_table, task_of, received_of, stop_table, stop_of, result_table, result_of, cause_table, cause_of, known, known_flag, known_of, call_of, changes_line, settings_of};
+ghost use Rattle.call_codes.specs.Codes.{timestamp_table, timestamp_of, task_table, task_of, received_of, stop_table, stop_of, result_table, result_of, cause_table, cause_of, known, known_flag, known_of, call_of, settings_of};
+ghost use Rattle.service.specs.Service.{changes_line};
 
 use radio_frame::Settings;
 use service::ServiceCall;
@@ -165,9 +166,9 @@ impl ExportedCall {
 
 impl ExportedCall {
     // The calls that can change the line; all others leave it as it is.
-    #[tactic(auto, unfolding(crate::specs::Codes::changes_line))]
+    #[tactic(auto, unfolding(service::specs::Service::changes_line, crate::specs::Codes::call_of))]
     pub fn changes_line(self) -> bool
-        ensures { result ≡ changes_line self }
+        ensures { result ≡ changes_line (call_of self) }
     {
         matches!(
             self,

@@ -5,7 +5,7 @@ use mathlib.Core.Path.{◌≡◌, refl, sym, ◌∙◌, ap}
 use mathlib.Core.Bool.{Bool, true, false, ◌&&◌}
 use mathlib.Core.List.{List, []}
 use lib.Dec.{eqb}
-use lib.ListN.{length}
+use lib.ListN.{length, get_or}
 use native.Mathlib.Omega.{arith}
 use borrow.Author.Tests.{eq-eqb, eqb-false, ne_eqb}
 use Rattle.std.proofs.lemmas.Bool.{and_parts}
@@ -14,27 +14,28 @@ use Rattle.tasks.specs.declared.Request.{Request}
 use Rattle.tasks.specs.declared.State.{State}
 use Rattle.driver_service.specs.Promises.{served}
 use Rattle.engine.specs.Step.{Outcome}
-use Rattle.service.specs.Service.{Served}
-use Rattle.state_bytes.specs.Layout.{state_at}
-use Rattle.state_bytes.specs.Valid.{holds_state, same_list}
+use Rattle.service.specs.Service.{Served, changes_line}
+use Rattle.state_bytes.specs.Layout.{state_at, written_state}
+use Rattle.state_bytes.specs.Valid.{valid_state, holds_state, same_list}
 use Rattle.state_bytes.proofs.Same.{same_true}
 use Rattle.line_bytes.specs.Layout.{line_at, written_line}
 use Rattle.line_bytes.specs.Valid.{line_fits, holds_line}
 use Rattle.reply_bytes.specs.Reply.{written_reply}
 use Rattle.call_codes.specs.declared.ExportedCall.{ExportedCall}
 use Rattle.call_codes.specs.declared.StartNumbers.{StartNumbers}
-use Rattle.call_codes.specs.Codes.{changes_line}
+use Rattle.call_codes.specs.Codes.{call_of}
 use Rattle.slices.specs.Slices.{slices_fit, form_ok, if_accepted}
 use Rattle.slices.specs.Inner.{Finished}
 use Rattle.slices.proofs.Slices.{settled, line_stored, form_lengths}
 use Rattle.outcomes.specs.Outcomes.{unknown_of, made_of, begun_of}
-use Rattle.outcomes.proofs.Outcomes.{made_unchanged, made_refusal, line_stays, begun_unchanged, begun_line}
+use Rattle.outcomes.proofs.Outcomes.{made_unchanged, made_refusal, line_stays_as, begun_unchanged, begun_line}
 use Rattle.byte_calls.specs.Calls.{exported_refusal, made_on, call_result, call_state, call_line, call_reply, call_pool, Called, start_result, start_state, start_line, start_reply, start_pool_after}
 use Rattle.byte_calls.specs.Lists.{AlwaysByteSound}
 use Rattle.byte_calls.specs.Start.{StartCalled}
 use Rattle.byte_calls.proofs.Order.{start_order}
 use Rattle.byte_calls.proofs.One.{call_one, start_one}
 use Rattle.byte_calls.proofs.Qualities.{made_carries}
+use Rattle.byte_calls.proofs.Acts.{line_silent, call_acts, silent_bytes, action_there}
 
 kept : (r : ℕ) (new old : List ℕ) → (r ≡ 0 → ⊥) → if_accepted r new old ≡ old
 kept r new old h = simp (ne_eqb r 0 h)
@@ -52,6 +53,18 @@ module _ (st li re po : List ℕ) (x : ExportedCall) where
   written : call_result st li re po x ≡ 0 → call_reply st li re po x ≡ written_reply (made_of (state_at st) (line_at li) po x).reply
   unfolding call_reply
   written z = simp (eq-eqb _ 0 z)
+
+  next_state : call_result st li re po x ≡ 0 → call_state st li re po x ≡ written_state (made_on st li re po x).state
+  unfolding call_state
+  next_state z = simp (eq-eqb _ 0 z)
+
+  -- the state that is read is written as the bytes that it was read from
+  state_same : form_ok st li (length re) ≡ true → written_state (state_at st) ≡ st
+  unfolding form_ok holds_state
+  state_same ok =
+      let f = and_parts (slices_fit (length st) (length li) (length re)) (holds_state st && holds_line (state_at st) li) ok in
+      let g = and_parts (holds_state st) (holds_line (state_at st) li) f.1 in
+      same_true (written_state (state_at st)) st (and_parts (valid_state (state_at st)) (same_list (written_state (state_at st)) st) g.0).1
 
   called : (o : Outcome) (qs : List Request) → form_ok st li (length re) ≡ true → (r : ℕ) (st' li' re' po' : List ℕ)
       → served o qs po' ≡ made_on st li re po x → Finished o st re r st' re' → li' ≡ call_line st li re po x → Called st li re po x r st' li' re' po'
@@ -78,6 +91,14 @@ module _ (st li re po : List ℕ) (x : ExportedCall) where
         refuses = W;
         refuses_one = call_one st li re po x W;
         unchanged = λ h. ((T ∙ kept k _ st (rw R at h), L ∙ kept k _ li (rw R at h)), (Y ∙ kept k _ re (rw R at h), Q ∙ kept k _ po (rw R at h)));
+        on_line =
+            λ z h.
+            let q = line_silent (state_at st) (line_at li) po x h in
+            (T ∙ next_state (sym R ∙ z) ∙ ap written_state q.1.0 ∙ state_same ok, (Y ∙ written (sym R ∙ z) ∙ silent_bytes m.reply q.0, pool ∙ q.1.1));
+        acts =
+            λ z h n.
+            let accepted : m.refusal ≡ 0 = sym refusal ∙ sym S.result ∙ z in
+            action_there m.reply (call_acts (state_at st) (line_at li) po x h accepted) (ap (λ (l : List ℕ). get_or l 0 0) (sym (Y ∙ written (sym R ∙ z))) ∙ n);
         qualities = λ z. rw (Y ∙ written (sym R ∙ z)) (made_carries x (state_at st) (line_at li) po);
       }
 
@@ -95,13 +116,13 @@ module _ (st li re po : List ℕ) (x : ExportedCall) where
     unfolding call_line
     line_written z = simp (by_made, z)
 
-    line_same : (made_on st li re po x).refusal ≡ 0 → changes_line x ≡ false → li ≡ call_line st li re po x
+    line_same : (made_on st li re po x).refusal ≡ 0 → changes_line (call_of x) ≡ false → li ≡ call_line st li re po x
     unfolding form_ok holds_line
     line_same z h =
         let f = and_parts (slices_fit (length st) (length li) (length re)) (holds_state st && holds_line (state_at st) li) ok in
         let g = and_parts (holds_state st) (holds_line (state_at st) li) f.1 in
         let w = and_parts (line_fits (state_at st) (line_at li)) (same_list (written_line (line_at li)) li) g.1 in
-        sym (same_true (written_line (line_at li)) li w.1) ∙ ap written_line (sym (line_stays (state_at st) (line_at li) po x h)) ∙ line_written z
+        sym (same_true (written_line (line_at li)) li w.1) ∙ ap written_line (sym (line_stays_as (state_at st) (line_at li) po x h)) ∙ line_written z
 
   -- what reading gives
   module _ {s : State} {ws : List Request} (K : (form_ok st li (length re) ≡ true) × (s ≡ state_at st)) (w : ws ≡ line_at li) (o : Outcome) (qs : List Request) where
@@ -126,7 +147,7 @@ module _ (st li re po : List ℕ) (x : ExportedCall) where
         ∙ ap (λ (y : Served). written_line y.line) (made_so po' e)
         ∙ line_written K.0 (sym (refusal_is po' e) ∙ sym F.result))
 
-    pub done_same : (st' re' po' : List ℕ) → Made po' → Finished o st re 0 st' re' → changes_line x ≡ false → Called st li re po x 0 st' li re' po'
+    pub done_same : (st' re' po' : List ℕ) → Made po' → Finished o st re 0 st' re' → changes_line (call_of x) ≡ false → Called st li re po x 0 st' li re' po'
     done_same st' re' po' e F h =
         called o qs K.0 0 st' li re' po' (made_so po' e) F (line_same K.0 (sym (refusal_is po' e) ∙ sym F.result) h)
 
@@ -142,6 +163,8 @@ module _ (st li re po : List ℕ) (x : ExportedCall) where
         refuses = simp bad;
         refuses_one = call_one st li re po x (simp bad);
         unchanged = λ h. ((refl, refl), (refl, refl));
+        on_line = λ z. absurd (omega arith);
+        acts = λ z. absurd (omega arith);
         qualities = λ z. absurd (omega arith);
       }
 

@@ -56,20 +56,6 @@ LinePasses =
     line_fits s l ≡ true →
     holds_line s (written_line l) ≡ true
 
--- bytes that some line that fits is written as
-pub record LineWrittenFrom (s : State) (bytes : List ℕ) : Type 0 where
-  pub line : List Request
-  pub sized : LineSized line
-  pub fits : line_fits s line ≡ true
-  pub written : written_line line ≡ bytes
-
--- bytes are accepted exactly if some line that fits is written as them
-abbrev pub LineHeldExactly : Type 0
-LineHeldExactly =
-    (s : State) (bytes : List ℕ) →
-    AllBytes bytes →
-    holds_line s bytes ≡ true ↔ LineWrittenFrom s bytes
-
 -- no two requests have the same number
 abbrev pub Different : (Request → ℕ) → List Request → Type 0
 Different number [] = Unit {0}
@@ -90,3 +76,17 @@ pub record FitsInWords (s : State) (qs : List Request) : Type 0 where
 
 abbrev pub FitsExactly : Type 0
 FitsExactly = (s : State) (qs : List Request) → line_fits s qs ≡ true ↔ FitsInWords s qs
+
+-- bytes that some line which fits, in the document's words, is written as
+pub record LineWrittenFrom (s : State) (bytes : List ℕ) : Type 0 where
+  pub line : List Request
+  pub sized : LineSized line
+  pub fits : FitsInWords s line
+  pub written : written_line line ≡ bytes
+
+-- bytes are accepted exactly if some line that fits is written as them
+abbrev pub LineHeldExactly : Type 0
+LineHeldExactly =
+    (s : State) (bytes : List ℕ) →
+    AllBytes bytes →
+    holds_line s bytes ≡ true ↔ LineWrittenFrom s bytes

@@ -2,8 +2,8 @@
 -- leave the line.
 -- Assumes nothing.
 use Prim.Native.Nat.{ℕ}
-use mathlib.Core.Path.{◌≡◌, refl, ◌∙◌}
-use mathlib.Core.Bool.{Bool, true, false, true≢false, cond, not, ◌||◌}
+use mathlib.Core.Path.{◌≡◌, refl}
+use mathlib.Core.Bool.{Bool, true, false, cond, not, ◌||◌}
 use mathlib.Core.List.{List, []}
 use lib.Dec.{eqb}
 use lib.ListN.{length}
@@ -12,14 +12,12 @@ use Rattle.tasks.specs.declared.Request.{Request}
 use Rattle.tasks.specs.declared.State.{State}
 use Rattle.moves.specs.Move.{guarded_of}
 use Rattle.engine.specs.Step.{start_of, start_pool}
-use Rattle.service.specs.declared.ServiceCall.{ServiceCall}
-use Rattle.service.specs.Service.{Served, service_of, service_start}
+use Rattle.service.specs.Service.{service_of, changes_line, LineStays, service_start}
 use Rattle.service.specs.Refusals.{service_fits, service_later, service_refusal, ServiceInOrder, ServiceRefusedUnchanged}
-use Rattle.service.proofs.Refusals.{service_in_order, service_refused_unchanged}
-use Rattle.service.proofs.Cases.{arrives, withdraws, Case, refused, on_line, given, taken, service_case}
+use Rattle.service.proofs.Refusals.{service_in_order, service_refused_unchanged, line_stays}
 use Rattle.call_codes.specs.declared.ExportedCall.{ExportedCall}
 use Rattle.call_codes.specs.declared.StartNumbers.{StartNumbers}
-use Rattle.call_codes.specs.Codes.{known_flag, known_of, call_of, changes_line, settings_of}
+use Rattle.call_codes.specs.Codes.{known_flag, known_of, call_of, settings_of}
 use Rattle.outcomes.specs.Outcomes.{or_five, unknown_of, made_of, unknown_start, begun_of}
 
 -- ---- A call
@@ -59,48 +57,13 @@ module _ (s : State) (qs : List Request) (po : List ℕ) (x : ExportedCall) wher
 
 -- ---- The line, which only three calls change
 
-abbrev is_on_line : ServiceCall → Bool
-is_on_line (ServiceCall.Arrive q) = true
-is_on_line (ServiceCall.Withdraw token) = true
-is_on_line ServiceCall.Request = true
-is_on_line ServiceCall.None = false
-is_on_line ServiceCall.FrameStart = false
-is_on_line (ServiceCall.OutboundSeen start cca) = false
-is_on_line (ServiceCall.Stopped r) = false
-is_on_line (ServiceCall.Header arrived length) = false
-is_on_line (ServiceCall.Entered r entry) = false
-is_on_line (ServiceCall.Fallback r cause) = false
-is_on_line ServiceCall.Rollback = false
-
-on_line_as : (x : ExportedCall) → is_on_line (call_of x) ≡ changes_line x
-unfolding call_of changes_line
-on_line_as (ExportedCall.Arrive token direction start time buffer length cca) = refl
-on_line_as (ExportedCall.Withdraw token) = refl
-on_line_as ExportedCall.Request = refl
-on_line_as ExportedCall.None = refl
-on_line_as ExportedCall.FrameStart = refl
-on_line_as (ExportedCall.OutboundSeen start time cca) = refl
-on_line_as (ExportedCall.Stopped outcome length time quality) = refl
-on_line_as (ExportedCall.Header arrived length) = refl
-on_line_as (ExportedCall.Entered result length time entry quality) = refl
-on_line_as (ExportedCall.Fallback result length time cause causeTime quality) = refl
-on_line_as ExportedCall.Rollback = refl
-
-module _ (s : State) (qs : List Request) (po : List ℕ) where
-  case_line : (c : ServiceCall) (r : Served) → Case s qs po c r → is_on_line c ≡ false → r.line ≡ qs
-  case_line c r (refused x k e) h = refl
-  case_line c r (on_line x line (arrives q z)) h = absurd (true≢false h)
-  case_line c r (on_line x line (withdraws token z)) h = absurd (true≢false h)
-  case_line c r (given x d e g L) h = refl
-  case_line c r (taken a q w f) h = absurd (true≢false h)
-
-  pub line_stays : (x : ExportedCall) → changes_line x ≡ false → (made_of s qs po x).line ≡ qs
-  unfolding made_of unknown_of
-  line_stays x h = go (known_of x)
-    where
-      go : (t : Bool) → (cond t (service_of s qs po (call_of x)) (unknown_of s qs po)).line ≡ qs
-      go true = case_line (call_of x) (service_of s qs po (call_of x)) (service_case s qs po (call_of x)) (on_line_as x ∙ h)
-      go false = refl
+pub line_stays_as : (s : State) (qs : List Request) (po : List ℕ) (x : ExportedCall) → changes_line (call_of x) ≡ false → (made_of s qs po x).line ≡ qs
+unfolding made_of unknown_of LineStays
+line_stays_as s qs po x h = go (known_of x)
+  where
+    go : (t : Bool) → (cond t (service_of s qs po (call_of x)) (unknown_of s qs po)).line ≡ qs
+    go true = line_stays s qs po (call_of x) h
+    go false = refl
 
 -- ---- A start
 module _ (n : StartNumbers) (po : List ℕ) where

@@ -851,7 +851,7 @@ fn every_arrived_count() {
             ..choose::settings(&mut rng)
         };
         let mut run = reading_header(start);
-        let settings = run.state().settings;
+        let settings = run.read.0.settings;
         let bytes = common::frames::header(&mut rng, &settings);
         put(&mut run, 2, &bytes);
         for arrived in 0..=26 {

@@ -461,6 +461,36 @@ fn lines_changed_in_one_way() {
     );
 }
 
+/// Any two fields of the same width exchanged, within one record, from one to another, or between state and line.
+#[test]
+fn fields_exchanged() {
+    let mut rng = Rng::new(seed(19));
+    let mut benches: Vec<Bench> = collect(seed(27), 5).iter().map(Bench::new).collect();
+    let mut counts = Counts::default();
+    while counts.calls < rounds(500_000) {
+        let which = rng.below(benches.len());
+        let bench = &mut benches[which];
+        let mut damaged = bench.bytes();
+        let width = rng.pick(&[1, 1, 2, 4, 8, RECORD]);
+        let one = STATE + rng.below(LINE - width + 1);
+        let other = match rng.below(4) {
+            0 => rng.below(damaged.len() - width + 1),
+            // The same field of another record.
+            1 | 2 if width < RECORD => STATE + (one - STATE + RECORD * (1 + rng.below(3))) % LINE,
+            _ => STATE + rng.below(LINE - width + 1),
+        };
+        if other + width > damaged.len() || one.abs_diff(other) < width {
+            continue;
+        }
+        for at in 0..width {
+            damaged.swap(one + at, other + at);
+        }
+        bench.call(&mut rng, &damaged, &mut counts);
+    }
+    counts.print("fields exchanged");
+    assert!(divisor().is_some() || (counts.accepted > 10_000 && counts.unread > 10_000));
+}
+
 /// State and line of different moments of one run: a line that shares a token or a buffer with the state is refused, another is taken
 /// as it stands.
 #[test]

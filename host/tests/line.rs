@@ -2,7 +2,7 @@
 mod common;
 mod model;
 
-use common::compare::Pair;
+use common::compare::{before, Pair};
 use common::reached::{collect, Reached};
 use common::run::Run;
 use common::scenes::*;
@@ -83,6 +83,36 @@ fn ten_buffers() -> RawStart {
     }
 }
 
+/// "Start empties it", whatever the slice holds; a start that is refused keeps it.
+#[test]
+fn starts() {
+    let right = ten_buffers();
+    let (headroom, implicit_broadcast, spare_buffer) = (9, 2, ACK);
+    let rows = [
+        (0, right, 1440),
+        (2, RawStart { count: 2, ..right }, 288),
+        (2, right, 1439),
+        (3, RawStart { headroom, ..right }, 1440),
+        (
+            3,
+            RawStart {
+                implicit_broadcast,
+                ..right
+            },
+            1440,
+        ),
+        (4, RawStart { spare_buffer, ..right }, 1440),
+    ];
+    for found in [line_of(&[tx(1, 2, 9), rx(2, 3)]), vec![0xee; 96]] {
+        for (number, start, pool) in rows {
+            let mut pair = Pair::new(&[0x99; 64], &found, &[0x99; 48], &vec![0x99; pool]);
+            assert_eq!(pair.start(&start), Ok(number), "{start:?}");
+            let expected = if number == 0 { vec![0; 96] } else { found.clone() };
+            assert_eq!(pair.line(), expected, "{start:?}");
+        }
+    }
+}
+
 /// A call on the line, in any wait: "no action (code 0) and no answer"; state and pool stay.
 fn on_the_line(pair: &mut Pair, raw: &Raw) {
     let (state, pool) = (pair.state().to_vec(), pair.pool().to_vec());
@@ -90,6 +120,20 @@ fn on_the_line(pair: &mut Pair, raw: &Raw) {
     assert_eq!(pair.reply(), [0; 48], "{raw:?}");
     assert_eq!(pair.state(), state, "{raw:?}");
     assert_eq!(pair.pool(), pool, "{raw:?}");
+}
+
+/// What a call returned. A refusal: "state, pool, state slice and reply slice keep their bytes"; E1, of the line: "a refusal keeps its
+/// bytes".
+fn told(pair: &mut Pair, raw: &Raw) -> u8 {
+    let slices = |pair: &Pair| [pair.state().to_vec(), pair.line().to_vec(), pair.pool().to_vec()];
+    let found = slices(pair);
+    let returned = pair.must(raw);
+    if returned != 0 {
+        assert_eq!(slices(pair), found, "{raw:?}");
+        let kept = pair.reply().iter().enumerate().all(|(at, byte)| *byte == before(at));
+        assert!(kept, "{raw:?}");
+    }
+    returned
 }
 
 /// A buffer that nobody holds.
@@ -133,7 +177,7 @@ fn arrivals_and_withdrawals_in_every_wait() {
             let raw = Raw::withdraw(from.read().1 .0[at].token());
             pair.set(&from.state, &from.line);
             if named && Some(at) == earliest_tx {
-                assert_eq!(pair.must(&raw), 13, "it is the Tx that OutboundSeen named");
+                assert_eq!(told(&mut pair, &raw), 13, "it is the Tx that OutboundSeen named");
                 continue;
             }
             on_the_line(&mut pair, &raw);
@@ -195,7 +239,7 @@ fn arrival_with(from: &Reached, faults: u32, transmit: bool) -> Option<Raw> {
 /// waits ..; both after 8." "Arrival skips 9."
 #[test]
 fn refusals_of_arrivals_in_order() {
-    let mut told: BTreeMap<u8, u64> = BTreeMap::new();
+    let mut numbers: BTreeMap<u8, u64> = BTreeMap::new();
     for from in collect(seed(51), 5) {
         let full = from.read().1 .0.len() == 4;
         let mut pair = Pair::on(&from.state, &from.line, &from.pool);
@@ -212,15 +256,16 @@ fn refusals_of_arrivals_in_order() {
                     None => 0,
                 };
                 pair.set(&from.state, &from.line);
-                assert_eq!(pair.must(&raw), expected, "{raw:?}, faults {faults:08b}, full {full}");
-                *told.entry(expected).or_default() += 1;
+                let number = told(&mut pair, &raw);
+                assert_eq!(number, expected, "{raw:?}, faults {faults:08b}, full {full}");
+                *numbers.entry(number).or_default() += 1;
             }
         }
     }
     if divisor().is_none() {
-        assert_eq!(told.keys().copied().collect::<Vec<_>>(), [0, 5, 6, 7, 8, 12, 13]);
+        assert_eq!(numbers.keys().copied().collect::<Vec<_>>(), [0, 5, 6, 7, 8, 12, 13]);
     }
-    println!("line: arrivals with every set of faults, by number: {told:?}");
+    println!("line: arrivals with every set of faults, by number: {numbers:?}");
 }
 
 /// Four wait: a fifth is 12, also with the token of one of them, but 8 with a wrong length; one is withdrawn, and it arrives.
@@ -442,14 +487,12 @@ fn every_line_at_every_ask() {
             let allowed = line
                 .iter()
                 .position(|raw| matches!(*raw, Raw::Arrive { direction, start, .. } if ask.allows(direction == 0, start == 1)));
-            let fits = ask.takes_none() && allowed.is_none();
-            assert_eq!(
-                call(&mut run.clone(), Raw::None),
-                if fits { 0 } else { 5 },
-                "None, {ask:?}, {line:?}"
-            );
+            let mut asked = run.pair.clone();
+            let number = if ask.takes_none() && allowed.is_none() { 0 } else { 5 };
+            assert_eq!(told(&mut asked, &Raw::None), number, "None, {ask:?}, {line:?}");
+            assert_eq!(asked.line(), line_of(line), "None takes nothing, {ask:?}");
             let Some(place) = allowed else {
-                assert_eq!(call(&mut run, Raw::Request), 9, "{ask:?}, {line:?}");
+                assert_eq!(told(&mut run.pair, &Raw::Request), 9, "{ask:?}, {line:?}");
                 none += 1;
                 continue;
             };
@@ -490,11 +533,8 @@ fn asked_in_no_other_wait() {
             });
         }
         for raw in raws {
-            assert_eq!(
-                Pair::on(&from.state, &from.line, &from.pool).must(&raw),
-                5,
-                "{raw:?} in {codes:?}"
-            );
+            let mut pair = Pair::on(&from.state, &from.line, &from.pool);
+            assert_eq!(told(&mut pair, &raw), 5, "{raw:?} in {codes:?}");
             made += 1;
         }
     }

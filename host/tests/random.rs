@@ -54,7 +54,7 @@ impl Coverage {
     fn count_accepted(&mut self, before: &Before, frames: &mut Frames, run: &Run, raw: Raw) {
         self.accepted[raw.kind()] += 1;
         *self.waits.entry(run.codes()).or_default() += 1;
-        let waiting = run.line().0.len();
+        let waiting = run.read.1 .0.len();
         *self.lengths.entry(waiting).or_default().entry(run.codes()).or_default() += 1;
         if let Some(changed) = frames.changed(before, &raw, run.pair.pool()) {
             self.met.add(changed, before.wait());
@@ -77,7 +77,7 @@ impl Coverage {
 
     /// Counts a header that was read, if it is for us, requests an ACK and has a number. Only one for us alone gets an ACK turn.
     fn count_requested(&mut self, run: &Run, arrived: u16) {
-        let state = run.state();
+        let state = run.read.0;
         let Some((_, buffer)) = state.wait.open()[0] else { return };
         let frame = state.settings.frame(buffer);
         let bytes = &run.pair.pool()[frame..frame + usize::from(arrived)];

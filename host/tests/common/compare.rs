@@ -18,6 +18,9 @@ pub fn before(at: usize) -> u8 {
 }
 
 fn difference(name: &str, library: &[u8], model: &[u8]) -> Option<String> {
+    if library == model {
+        return None;
+    }
     let at = (0..model.len()).find(|at| library[*at] != model[*at])?;
     let count = (0..model.len()).filter(|at| library[*at] != model[*at]).count();
     let bytes = if model.len() <= 96 {
@@ -161,11 +164,13 @@ impl Pair {
 
     /// What the library alone returns for a call that writes no byte of the pool; state, line and reply are put back after it.
     pub fn tries(&mut self, raw: &Raw) -> u8 {
-        let before = [&self.library.state, &self.library.line, &self.library.reply].map(|slice| slice.get().to_vec());
+        let before = [self.state(), self.line(), self.reply()].concat();
         let returned = self.library.call(raw);
-        let after = [&mut self.library.state, &mut self.library.line, &mut self.library.reply];
-        for (slice, bytes) in after.into_iter().zip(before) {
-            slice.get_mut().copy_from_slice(&bytes);
+        let mut before = before.as_slice();
+        for slice in [&mut self.library.state, &mut self.library.line, &mut self.library.reply] {
+            let (bytes, rest) = before.split_at(slice.len());
+            slice.get_mut().copy_from_slice(bytes);
+            before = rest;
         }
         returned
     }

@@ -74,10 +74,8 @@ pub struct Before {
 
 impl Before {
     pub fn of(run: &Run) -> Before {
-        Before {
-            state: run.state(),
-            line: run.line(),
-        }
+        let (state, line) = run.read.clone();
+        Before { state, line }
     }
 
     /// Kind, case and what is entered.

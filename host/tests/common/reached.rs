@@ -71,12 +71,10 @@ fn to_wait(codes: [u8; 3], taken: usize) -> usize {
 fn with_waiting(run: &Run, rng: &mut Rng, waiting: usize) -> Option<Run> {
     let mut run = run.clone();
     for _ in 0..30 {
-        let (state, line) = (run.state(), run.line());
-        let now = run.now(&state, &line);
-        let raw = match line.0.len().cmp(&waiting) {
+        let raw = match run.read.1 .0.len().cmp(&waiting) {
             Ordering::Equal => return Some(run),
-            Ordering::Less => choose::arrive(rng, now),
-            Ordering::Greater => choose::withdraw(rng, now),
+            Ordering::Less => choose::arrive(rng, run.now()),
+            Ordering::Greater => choose::withdraw(rng, run.now()),
         };
         run.step(Step::Call(raw)).unwrap_or_else(|wrong| panic!("{wrong}"));
     }

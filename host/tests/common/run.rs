@@ -32,6 +32,15 @@ pub struct Run {
     pub pair: Pair,
     pub book: Book,
     pub steps: Vec<Step>,
+    /// State and line as the model reads them from the library's slices.
+    pub read: (State, Line),
+}
+
+/// State and line as the model reads them.
+fn read(pair: &Pair) -> Result<(State, Line), String> {
+    let state = read_state(pair.state()).ok_or("the state is not valid")?;
+    let line = read_line(pair.line(), &state).ok_or("the line is not valid")?;
+    Ok((state, line))
 }
 
 fn resized(bytes: &[u8], length: usize) -> Vec<u8> {
@@ -55,6 +64,7 @@ impl Run {
         match returned {
             0 => Ok(Run {
                 opening,
+                read: read(&pair)?,
                 pair,
                 book,
                 steps: Vec::new(),
@@ -63,21 +73,11 @@ impl Run {
         }
     }
 
-    /// The state as the model reads it from the library's state slice.
-    pub fn state(&self) -> State {
-        read_state(self.pair.state()).expect("an accepted call left a valid state")
-    }
-
-    /// The line as the model reads it from the library's slices.
-    pub fn line(&self) -> Line {
-        read_line(self.pair.line(), &self.state()).expect("an accepted call left a valid line")
-    }
-
-    /// State and line, read before, with the pool.
-    pub fn now<'a>(&'a self, state: &'a State, line: &'a Line) -> Now<'a> {
+    /// State, line and pool, for choosing a call.
+    pub fn now(&self) -> Now<'_> {
         Now {
-            state,
-            line,
+            state: &self.read.0,
+            line: &self.read.1,
             pool: self.pair.pool(),
         }
     }
@@ -117,6 +117,7 @@ impl Run {
         if returned == 0 {
             let pool = found.as_deref().unwrap_or(&[]);
             self.book.accept(raw, pool, self.pair.reply())?;
+            self.read = read(&self.pair)?;
             self.same_as_book()?;
             self.goes_on()?;
         }
@@ -134,12 +135,7 @@ impl Run {
 
     /// What waits, unanswered requests and held buffers, as state and line have them, are the book's.
     fn same_as_book(&self) -> Result<(), String> {
-        let Some(state) = read_state(self.pair.state()) else {
-            return Err("the state is not valid".to_string());
-        };
-        let Some(line) = read_line(self.pair.line(), &state) else {
-            return Err("the line is not valid".to_string());
-        };
+        let (state, line) = &self.read;
         debug_assert_eq!(codes(&state.wait), self.codes());
         let open = state.wait.open();
         let mut tokens: Vec<u32> = open.iter().flatten().map(|open| open.0).collect();
@@ -148,24 +144,26 @@ impl Run {
         held.extend(line.0.iter().map(|request| request.buffer()));
         tokens.sort_unstable();
         held.sort_unstable();
-        let (own, book) = ((line.0, tokens, held), self.book.says());
-        match own == book {
+        let (waiting, unanswered, book_held) = self.book.says();
+        match (&line.0, &tokens, &held) == (&waiting, &unanswered, &book_held) {
             true => Ok(()),
-            false => Err(format!("state and line hold {own:?}, the book says {book:?}")),
+            false => Err(format!(
+                "state and line have {:?}, {tokens:?} and {held:?}, the book says {waiting:?}, {unanswered:?} and {book_held:?}",
+                line.0
+            )),
         }
     }
 
     /// A random step: mostly a call that fits, often with pool bytes before it.
     pub fn random_step(&mut self, rng: &mut Rng) -> Result<(u8, Option<Raw>), String> {
-        let (state, line) = (self.state(), self.line());
         if rng.chance(60) {
-            let poke = choose::poke(rng, self.now(&state, &line));
+            let poke = choose::poke(rng, self.now());
             self.step(Step::Poke(poke))?;
         }
         let raw = if rng.chance(85) {
-            choose::fitting(rng, self.now(&state, &line))
+            choose::fitting(rng, self.now())
         } else {
-            choose::any(rng, self.now(&state, &line))
+            choose::any(rng, self.now())
         };
         let step = match rng.below(200) {
             0 => Step::Cut(raw, self.cut(rng)),

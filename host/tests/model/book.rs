@@ -402,6 +402,14 @@ impl Book {
                 self.waiting.len()
             ));
         }
+        // The one that OutboundSeen named leaves at the ask after its window ended: it waits there, and the ask is never met by 9.
+        let waits = |named: u64| self.waiting.iter().any(|arrival| arrival.place == named);
+        if self.asked == Asked::Outbound && !self.named.is_some_and(waits) {
+            return Err(format!(
+                "an outbound request is asked for, but {:?} does not wait",
+                self.named
+            ));
+        }
         let mut different = self.held.clone();
         different.sort_unstable();
         different.dedup();

@@ -32,6 +32,7 @@
 //! let length = cell.put_frame(2, &frame).expect("buffer 2 is there and not the ACK's");
 //! let weighing = Request { token: 1, start: Timestamp::BestEffort, buffer: 2, task: Task::Tx { length, cca: true } };
 //! cell.arrive(weighing)?;
+//! assert_eq!(cell.waiting().next(), Some(weighing));
 //! let asked = cell.request()?;
 //! assert!(matches!(asked.action, Action::Tx { buffer: 2, length: 12, cca: true, .. }));
 //!

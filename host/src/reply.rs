@@ -266,7 +266,13 @@ const ACTION_LENGTH: usize = 12;
 const ANSWER_LENGTH: usize = 18;
 
 impl Reply {
-    /// None if the bytes are not those of an accepted call's reply.
+    /// The reply of an accepted call on the line. None if the bytes are not all 0.
+    pub(crate) fn decode_on_line(reply: &[u8; REPLY_LENGTH]) -> Option<Self> {
+        let (action, answers) = (Action::Nothing, Answers::None);
+        (*reply == [0; REPLY_LENGTH]).then_some(Self { action, answers })
+    }
+
+    /// The reply of any other accepted call. None if the bytes are not those of such a one.
     pub(crate) fn decode(reply: &[u8; REPLY_LENGTH]) -> Option<Self> {
         let (action, rest) = reply.split_first_chunk::<ACTION_LENGTH>()?;
         let (first, rest) = rest.split_first_chunk::<ANSWER_LENGTH>()?;
@@ -299,7 +305,6 @@ fn decode_action(bytes: &[u8; ACTION_LENGTH]) -> Option<Action> {
         _ => Spacing::After(Ifs::Lifs),
     };
     Some(match code {
-        0 => Action::Nothing,
         1 => Action::ReceiveRequest,
         2 => Action::TryReceiveRequest(TaskDirection::Any),
         3 => Action::TryReceiveRequest(TaskDirection::Outbound),
@@ -384,11 +389,7 @@ mod tests {
     fn actions_are_those_of_the_layouts() {
         let at: &[u8] = &[8, 7, 6, 5, 4, 3, 2, 1];
         let time = 0x0102_0304_0506_0708;
-        let nothing = Reply {
-            action: Action::Nothing,
-            answers: Answers::None,
-        };
-        assert_eq!(Reply::decode(&[0; REPLY_LENGTH]), Some(nothing));
+        assert_eq!(action(&[]), None, "only on the line");
         assert_eq!(action(&[(0, &[12])]), None);
         assert_eq!(action(&[(0, &[1])]), Some(Action::ReceiveRequest));
         assert_eq!(action(&[(0, &[2])]), Some(Action::TryReceiveRequest(TaskDirection::Any)));
@@ -417,6 +418,18 @@ mod tests {
         assert_eq!(action(&[(0, &[10, 1, 0, 0b01010])]), Some(rx));
         assert_eq!(action(&[(0, &[11, 0, 0, 2])]), Some(Action::Off { rollback: true }));
         assert_eq!(action(&[(0, &[11])]), Some(Action::Off { rollback: false }));
+    }
+
+    #[test]
+    fn replies_on_the_line_are_all_zero() {
+        let nothing = Reply {
+            action: Action::Nothing,
+            answers: Answers::None,
+        };
+        assert_eq!(Reply::decode_on_line(&with(&[])), Some(nothing));
+        for place in 0..REPLY_LENGTH {
+            assert_eq!(Reply::decode_on_line(&with(&[(place, &[1])])), None, "byte {place}");
+        }
     }
 
     #[test]

@@ -71,7 +71,7 @@ impl<const N: usize> DriverService<N> {
     pub fn arrive(&mut self, request: Request) -> Result<Reply, Refusal> {
         let (direction, length, cca) = request.task.numbers();
         let (start, time) = request.start.numbers();
-        self.call(|slices| raw::arrive(request.token, direction, start, time, request.buffer, length, cca, slices))
+        self.call_on_line(|slices| raw::arrive(request.token, direction, start, time, request.buffer, length, cca, slices))
     }
 
     /// The waiting request with this token leaves the line. It is not answered, and its buffer is the host's again.
@@ -79,7 +79,7 @@ impl<const N: usize> DriverService<N> {
     /// This fits every wait, and its reply is as that of `arrive`. A request that has left the line cannot be withdrawn, nor the Tx
     /// that `outbound_seen` named while its stop or its ask is open (13).
     pub fn withdraw(&mut self, token: u32) -> Result<Reply, Refusal> {
-        self.call(|slices| raw::withdraw(token, slices))
+        self.call_on_line(|slices| raw::withdraw(token, slices))
     }
 
     /// Where a request is waited or asked for: the earliest arrival whose direction and start the wait allows is taken from the line.
@@ -208,6 +208,18 @@ impl<const N: usize> DriverService<N> {
     }
 
     fn call(&mut self, function: impl FnOnce(Slices<'_>) -> u8) -> Result<Reply, Refusal> {
+        self.decoded(function, Reply::decode)
+    }
+
+    fn call_on_line(&mut self, function: impl FnOnce(Slices<'_>) -> u8) -> Result<Reply, Refusal> {
+        self.decoded(function, Reply::decode_on_line)
+    }
+
+    fn decoded(
+        &mut self,
+        function: impl FnOnce(Slices<'_>) -> u8,
+        decode: fn(&[u8; REPLY_LENGTH]) -> Option<Reply>,
+    ) -> Result<Reply, Refusal> {
         let mut reply = [0; REPLY_LENGTH];
         let number = function(Slices {
             state: &mut self.state,
@@ -216,7 +228,7 @@ impl<const N: usize> DriverService<N> {
             pool: self.pool.bytes_mut(),
         });
         match Refusal::of(number) {
-            None => Reply::decode(&reply).ok_or(Refusal::Unknown(number)),
+            None => decode(&reply).ok_or(Refusal::Unknown(number)),
             Some(refusal) => Err(refusal),
         }
     }
@@ -266,8 +278,8 @@ mod tests {
         }
     }
 
-    /// A request that arrives in an idle service's empty line and leaves it at once.
-    fn taken(service: &mut DriverService<4>, request: Request) -> Result<Reply, Refusal> {
+    /// A request that arrives in an empty line and leaves it at once.
+    fn taken<const N: usize>(service: &mut DriverService<N>, request: Request) -> Result<Reply, Refusal> {
         service.step(Call::Arrive(request))?;
         service.step(Call::Request)
     }
@@ -355,6 +367,71 @@ mod tests {
         assert_eq!(service.arrive(tx(1, at, 2, 2, false)), Err(Refusal::TxLength));
         assert_eq!(service.arrive(tx(1, at, 3, 12, false)), Err(Refusal::BufferHeld));
         assert_eq!(service.wait(), Some(Wait::Asking(Asked::Idle)));
+    }
+
+    const NOTHING: Reply = Reply {
+        action: Action::Nothing,
+        answers: Answers::None,
+    };
+
+    // Four wait, and a fifth does not. What is refused changes nothing; what is withdrawn leaves no gap, and its buffer is free.
+    #[test]
+    fn the_line_keeps_four_in_their_order() {
+        let (mut service, _) = DriverService::start(SETTINGS, Pool::<8>::new()).expect("accepted");
+        assert_eq!((service.waiting().count(), service.line()), (0, &[0; 96]));
+        let (at, best_effort) = (Timestamp::Scheduled(0x0102_0304_0506_0708), Timestamp::BestEffort);
+        let four = [
+            tx(0xA1B2_C3D4, at, 1, 12, true),
+            rx(2, 2),
+            tx(3, best_effort, 4, 123, false),
+            rx(4, 5),
+        ];
+        for request in four {
+            assert_eq!(service.step(Call::Arrive(request)), Ok(NOTHING));
+        }
+        assert!(service.waiting().eq(four));
+        let first = [
+            1, 1, 1, 1, 0xD4, 0xC3, 0xB2, 0xA1, 8, 7, 6, 5, 4, 3, 2, 1, 12, 0, 0, 0, 0, 0, 0, 0,
+        ];
+        assert_eq!(service.line()[..24], first);
+        let before = (*service.state(), *service.line());
+        assert_eq!(service.arrive(rx(3, 4)), Err(Refusal::BufferHeld), "by one that waits");
+        assert_eq!(service.arrive(tx(3, at, 6, 124, true)), Err(Refusal::TxLength));
+        assert_eq!(service.arrive(rx(3, 6)), Err(Refusal::LineFull));
+        assert_eq!(service.withdraw(6), Err(Refusal::TokenWaits), "it does not");
+        assert_eq!((*service.state(), *service.line()), before);
+        assert_eq!(service.step(Call::Withdraw { token: 2 }), Ok(NOTHING));
+        assert!(service.waiting().eq([four[0], four[2], four[3]]));
+        assert_eq!(service.arrive(rx(3, 2)), Err(Refusal::TokenWaits));
+        assert_eq!(service.arrive(rx(2, 2)), Ok(NOTHING));
+        assert!(service.waiting().eq([four[0], four[2], four[3], four[1]]));
+        let action = service.request().map(|reply| reply.action);
+        assert!(
+            matches!(action, Ok(Action::Tx { buffer: 1, start, .. }) if start == at),
+            "{action:?}"
+        );
+        assert!(service.waiting().eq([four[2], four[3], four[1]]));
+    }
+
+    // While a frame that wants no ACK is sent, nothing with a time may follow: a later request without one passes it.
+    #[test]
+    fn what_the_wait_allows_passes_what_it_does_not() {
+        let (mut service, _) = DriverService::start(SETTINGS, Pool::<8>::new()).expect("accepted");
+        let timed = tx(2, Timestamp::Scheduled(900), 1, 12, true);
+        service.put_frame(4, &[0x41, 0x88, 7]);
+        assert!(taken(&mut service, tx(1, Timestamp::BestEffort, 4, 12, true)).is_ok());
+        assert!(service.arrive(timed).is_ok());
+        assert_eq!(service.request(), Err(Refusal::Unfit), "nothing is asked for");
+        let asked = service.step(off_at(1)).map(|reply| reply.action);
+        assert_eq!(asked, Ok(Action::TryReceiveRequest(TaskDirection::Any)));
+        assert_eq!(service.request(), Err(Refusal::NotAllowed));
+        assert!(service.arrive(rx(3, 2)).is_ok());
+        assert_eq!(service.none(), Err(Refusal::Unfit), "one waits that may follow");
+        let passing = service.request().map(|reply| reply.action);
+        assert!(matches!(passing, Ok(Action::Rx { buffer: 2, .. })), "{passing:?}");
+        assert!(service.waiting().eq([timed]));
+        assert_eq!(service.withdraw(3), Err(Refusal::TokenWaits), "it has left");
+        assert_eq!(service.arrive(rx(3, 5)), Err(Refusal::TokenHeld));
     }
 
     // Sent with an ACK wait that fails once and ends; the answer has the time sent, the stop the time of entry.

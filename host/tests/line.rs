@@ -145,47 +145,58 @@ fn free_buffer(from: &Reached) -> Option<u8> {
     (0..state.settings.count).find(|buffer| !held.contains(buffer))
 }
 
-/// "Requests arrive and may be withdrawn by token in every wait": the one behind those that wait, the other from its place, and those
-/// behind it move up.
+/// Each kind of arrival goes behind those that wait, and its withdrawal gives back the line as it was.
+fn arrive_and_go(from: &Reached, waiting: usize) -> u64 {
+    let token = 0x7654_3210;
+    let Some(buffer) = free_buffer(from).filter(|_| waiting < 4) else {
+        return 0;
+    };
+    let mut pair = Pair::on(&from.state, &from.line, &from.pool);
+    for raw in [
+        Raw::arrive(token, 0, 0, 5, buffer, 3, 1),
+        Raw::arrive(token, 0, 1, 5, buffer, 20, 0),
+        Raw::arrive(token, 1, 0, 5, buffer, 20, 1),
+        Raw::arrive(token, 1, 1, 5, buffer, 0, 0),
+    ] {
+        on_the_line(&mut pair, &raw);
+        let mut line = from.line.clone();
+        line[RECORD * waiting..][..RECORD].copy_from_slice(&record(&raw));
+        assert_eq!(pair.line(), line, "{raw:?}");
+        on_the_line(&mut pair, &Raw::withdraw(token));
+        assert_eq!(pair.line(), from.line);
+    }
+    4
+}
+
+/// Each that waits is withdrawn from its place, and those behind it move up; but the Tx that OutboundSeen named stays.
+fn withdraw_each(from: &Reached, waiting: usize) -> u64 {
+    let mut withdrawn = 0;
+    let named = [[0, 1, 0], [4, 1, 0]].contains(&[from.state[17], from.state[18], from.state[19]]);
+    let earliest_tx = (0..waiting).find(|at| from.line[RECORD * at] == 1);
+    for at in 0..waiting {
+        let mut pair = Pair::on(&from.state, &from.line, &from.pool);
+        let raw = Raw::withdraw(from.read().1 .0[at].token());
+        if named && Some(at) == earliest_tx {
+            assert_eq!(told(&mut pair, &raw), 13, "it is the Tx that OutboundSeen named");
+            continue;
+        }
+        on_the_line(&mut pair, &raw);
+        let mut line = [&from.line[..RECORD * at], &from.line[RECORD * (at + 1)..]].concat();
+        line.resize(96, 0);
+        assert_eq!(pair.line(), line, "place {at}");
+        withdrawn += 1;
+    }
+    withdrawn
+}
+
+/// "Requests arrive and may be withdrawn by token in every wait".
 #[test]
 fn arrivals_and_withdrawals_in_every_wait() {
     let (mut arrived, mut withdrawn) = (0, 0);
     for from in collect(seed(50), 5) {
         let waiting = from.read().1 .0.len();
-        let mut pair = Pair::on(&from.state, &from.line, &from.pool);
-        let token = 0x7654_3210;
-        if let Some(buffer) = free_buffer(&from).filter(|_| waiting < 4) {
-            let raws = [
-                Raw::arrive(token, 0, 0, 5, buffer, 3, 1),
-                Raw::arrive(token, 0, 1, 5, buffer, 20, 0),
-                Raw::arrive(token, 1, 0, 5, buffer, 20, 1),
-                Raw::arrive(token, 1, 1, 5, buffer, 0, 0),
-            ];
-            for raw in raws {
-                on_the_line(&mut pair, &raw);
-                let mut line = from.line.clone();
-                line[RECORD * waiting..][..RECORD].copy_from_slice(&record(&raw));
-                assert_eq!(pair.line(), line, "{raw:?}");
-                on_the_line(&mut pair, &Raw::withdraw(token));
-                assert_eq!(pair.line(), from.line);
-                arrived += 1;
-            }
-        }
-        let named = [[0, 1, 0], [4, 1, 0]].contains(&[from.state[17], from.state[18], from.state[19]]);
-        let earliest_tx = (0..waiting).find(|at| from.line[RECORD * at] == 1);
-        for at in 0..waiting {
-            let raw = Raw::withdraw(from.read().1 .0[at].token());
-            pair.set(&from.state, &from.line);
-            if named && Some(at) == earliest_tx {
-                assert_eq!(told(&mut pair, &raw), 13, "it is the Tx that OutboundSeen named");
-                continue;
-            }
-            on_the_line(&mut pair, &raw);
-            let mut line = [&from.line[..RECORD * at], &from.line[RECORD * (at + 1)..]].concat();
-            line.resize(96, 0);
-            assert_eq!(pair.line(), line, "place {at}");
-            withdrawn += 1;
-        }
+        arrived += arrive_and_go(&from, waiting);
+        withdrawn += withdraw_each(&from, waiting);
     }
     assert!(arrived >= 800 && withdrawn >= 600, "{arrived}, {withdrawn}");
     println!("line: {arrived} arrivals and {withdrawn} withdrawals in every wait");

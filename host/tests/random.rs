@@ -3,7 +3,7 @@ mod common;
 mod model;
 
 use common::frames::{self, For, EVERY_FOR};
-use common::met::{Before, Frames, Met, Tally, EVERY_MET};
+use common::met::{Before, Frames, Met, Tally, BEST_EFFORT, EVERY_MET, IDLE, NAMED, TX_OR_BEST_EFFORT};
 use common::random::Rng;
 use common::run::{fail, Opening, Run};
 use common::{choose, compare::Pair, divisor, reached::every_wait, rounds, seed};
@@ -158,60 +158,25 @@ impl Coverage {
 
     /// What document 02, E1, says of the line has happened, in the waits in which it can and in no other.
     fn check_line(&self, every_wait: &[[u8; 3]]) {
-        const IDLE: [u8; 3] = [0, 0, 0];
-        const AFTER_WINDOW: [u8; 3] = [0, 1, 0];
-        const STOPPING: [u8; 3] = [4, 1, 0];
-        // Receiving, and for an awaited ACK: its window has ended, or its frame has started.
-        const TX_OR_BEST_EFFORT: [[u8; 3]; 3] = [[0, 2, 0], [0, 3, 0], [0, 6, 0]];
-        const BEST_EFFORT: [[u8; 3]; 2] = [[0, 4, 0], [0, 5, 0]];
-        let sorted = |parts: &[&[[u8; 3]]]| {
-            let mut all = parts.concat();
-            all.sort_unstable();
-            all
-        };
-        let taking_none = sorted(&[&TX_OR_BEST_EFFORT, &BEST_EFFORT]);
         for met in EVERY_MET {
-            let expected = match met {
-                Met::Named => vec![AFTER_WINDOW, STOPPING],
-                // Asked for the Tx that OutboundSeen named, the line has it: never 9.
-                Met::NothingToTake => sorted(&[&[IDLE], &taking_none]),
-                Met::AllowedWaits | Met::OthersWait => taking_none.clone(),
-                Met::NoTxSeen | Met::OtherStartSeen | Met::OtherFlagSeen => vec![[3, 0, 0]],
-                // In idle the first of the line leaves.
-                Met::Passes | Met::BestEffortPasses => sorted(&[&[AFTER_WINDOW], &taking_none]),
-                Met::TxPasses => BEST_EFFORT.to_vec(),
-                Met::WantChanged | Met::NumberChanged => sorted(&[&[IDLE, AFTER_WINDOW], &taking_none]),
-                // Only with a request that has left: not where the radio is off or sends an ACK, with nothing to enter.
-                Met::TokenLeft | Met::BufferLeft | Met::LeftAlready => {
-                    let none_left = [IDLE, [0, 5, 0], [1, 3, 0]];
-                    every_wait.iter().copied().filter(|wait| !none_left.contains(wait)).collect()
-                }
-                Met::Arrived | Met::Withdrawn | Met::BufferWaits | Met::Full | Met::TokenWaits | Met::NoToken => {
-                    every_wait.to_vec()
-                }
-            };
+            let (waits, total) = (self.met.waits(met), self.met.total(met));
             assert_eq!(
-                self.met.waits(met),
-                expected,
+                waits,
+                met.waits(every_wait),
                 "{met:?} was not met in exactly the waits in which it can be"
             );
-            assert!(
-                self.met.total(met) >= 1_000,
-                "{met:?} was met only {} times",
-                self.met.total(met)
-            );
+            assert!(total >= 1_000, "{met:?} was met only {total} times");
         }
         for (waiting, waits) in &self.lengths {
             // The Tx that OutboundSeen named waits.
-            let named = [AFTER_WINDOW, STOPPING];
-            let expected = every_wait.iter().filter(|wait| *waiting > 0 || !named.contains(wait));
+            let expected = every_wait.iter().filter(|wait| *waiting > 0 || !NAMED.contains(wait));
             assert!(waits.keys().eq(expected), "{waiting} wait, in {waits:?}");
         }
         assert!(self.lengths.keys().copied().eq(0..=4));
         let (tx, timed_tx, rx, timed_rx) = ((true, false), (true, true), (false, false), (false, true));
         let mut left = BTreeMap::from([
             (IDLE, BTreeSet::from([tx, timed_tx, rx, timed_rx])),
-            (AFTER_WINDOW, BTreeSet::from([tx, timed_tx])),
+            (NAMED[0], BTreeSet::from([tx, timed_tx])),
         ]);
         left.extend(TX_OR_BEST_EFFORT.map(|wait| (wait, BTreeSet::from([tx, timed_tx, rx]))));
         left.extend(BEST_EFFORT.map(|wait| (wait, BTreeSet::from([tx, rx]))));

@@ -29,7 +29,7 @@ pub fn settings(rng: &mut Rng) -> RawStart {
         0 => 3,
         1 => 32,
         2 => 3 + rng.below(30) as u8,
-        _ => 4 + rng.below(7) as u8,
+        _ => 5 + rng.below(6) as u8,
     };
     let ack = rng.below(usize::from(count)) as u8;
     let spare = (usize::from(ack) + 1 + rng.below(usize::from(count) - 1)) % usize::from(count);
@@ -161,9 +161,9 @@ pub fn withdraw(rng: &mut Rng, now: Now) -> Raw {
 }
 
 /// Arrivals in a hundred calls, by how many wait, so that the line is now empty, now full.
-const ARRIVALS: [usize; 5] = [22, 17, 14, 12, 8];
+const ARRIVALS: [usize; 5] = [24, 20, 18, 16, 12];
 /// The same for withdrawals.
-const WITHDRAWALS: [usize; 5] = [1, 3, 4, 5, 7];
+const WITHDRAWALS: [usize; 5] = [1, 3, 3, 4, 6];
 
 /// The line's share of the calls that fit, in every wait.
 fn on_the_line(rng: &mut Rng, now: Now) -> Option<Raw> {

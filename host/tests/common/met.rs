@@ -66,6 +66,39 @@ pub const EVERY_MET: [Met; 21] = [
     Met::NumberChanged,
 ];
 
+pub const IDLE: [u8; 3] = [0, 0, 0];
+/// The ask after the window that OutboundSeen ended, and its stop.
+pub const NAMED: [[u8; 3]; 2] = [[0, 1, 0], [4, 1, 0]];
+/// Asks of "Tx any start, Rx best effort": receiving, and for an awaited ACK: its window has ended, or its frame has started.
+pub const TX_OR_BEST_EFFORT: [[u8; 3]; 3] = [[0, 2, 0], [0, 3, 0], [0, 6, 0]];
+/// Asks of "Tx and Rx best effort only": sending a frame or an ACK.
+pub const BEST_EFFORT: [[u8; 3]; 2] = [[0, 4, 0], [0, 5, 0]];
+
+impl Met {
+    /// The waits in which it can be met, of all of them.
+    pub fn waits(self, every_wait: &[[u8; 3]]) -> Vec<[u8; 3]> {
+        let taking_none = [&TX_OR_BEST_EFFORT[..], &BEST_EFFORT].concat();
+        let can_be: Vec<[u8; 3]> = match self {
+            Met::Named => NAMED.to_vec(),
+            // Asked for the Tx that OutboundSeen named, the line has it: never 9.
+            Met::NothingToTake => [&taking_none[..], &[IDLE]].concat(),
+            Met::AllowedWaits | Met::OthersWait => taking_none,
+            Met::NoTxSeen | Met::OtherStartSeen | Met::OtherFlagSeen => vec![[3, 0, 0]],
+            // In idle the first of the line leaves.
+            Met::Passes | Met::BestEffortPasses => [&taking_none[..], &NAMED[..1]].concat(),
+            Met::TxPasses => BEST_EFFORT.to_vec(),
+            Met::WantChanged | Met::NumberChanged => [&taking_none[..], &[IDLE], &NAMED[..1]].concat(),
+            // Only with a request that has left: not where the radio is off or sends an ACK, with nothing to enter.
+            Met::TokenLeft | Met::BufferLeft | Met::LeftAlready => {
+                let none_left = [IDLE, [0, 5, 0], [1, 3, 0]];
+                every_wait.iter().copied().filter(|wait| !none_left.contains(wait)).collect()
+            }
+            Met::Arrived | Met::Withdrawn | Met::BufferWaits | Met::Full | Met::TokenWaits | Met::NoToken => every_wait.to_vec(),
+        };
+        every_wait.iter().copied().filter(|wait| can_be.contains(wait)).collect()
+    }
+}
+
 /// State and line before a call.
 pub struct Before {
     pub state: State,
@@ -111,7 +144,7 @@ impl Before {
     }
 
     fn takes_none(&self) -> bool {
-        matches!(self.wait(), [0, 2..=6, _])
+        TX_OR_BEST_EFFORT.contains(&self.wait()) || BEST_EFFORT.contains(&self.wait())
     }
 
     /// The request that leaves.

@@ -3,6 +3,7 @@
 //! calls and replies alone too: which answers have which link quality (E6), and how the run can go on (`way_on`).
 use super::calls::{Call, Raw, RawStart, Request, Start};
 use super::settings::LONGEST;
+use super::told::{Asked, Told};
 
 /// A request that has arrived and not left. "The book enters a request once, at arrival".
 #[derive(Clone, Debug)]
@@ -22,59 +23,6 @@ struct Entry {
     followed: u32,
 }
 
-/// What is asked for "in the wait that document 01 gives for the calls so far".
-#[derive(Clone, Copy, Debug, PartialEq, Eq)]
-enum Asked {
-    Nothing,
-    Anything,
-    Outbound,
-    TxOrBestEffort,
-    BestEffort,
-}
-
-impl Asked {
-    /// By the last accepted call that was not on the line, and the code of its action.
-    fn after(raw: &Raw, action: u8) -> Asked {
-        match (action, raw) {
-            // "wait for a request". "Idle: Request, any direction and start".
-            (1, _) => Asked::Anything,
-            // "ask for an outbound request".
-            (3, _) => Asked::Outbound,
-            // What Entered asks for, it asks for with the radio sending. "ACK turn: Entered answers the receive result, then sending
-            // without a token"; "Sending otherwise: ask; Tx and Rx best effort only".
-            (2, Raw::Entered { .. }) => Asked::BestEffort,
-            // After Header, "Receiving, asked: Tx any start, Rx best effort". After Stopped, for an awaited ACK: "Window ended: ask; ..
-            // the Request (Tx any start, Rx best effort) or None"; "Frame started: ask as when receiving".
-            (2, _) => Asked::TxOrBestEffort,
-            _ => Asked::Nothing,
-        }
-    }
-
-    fn allows(self, request: &Request) -> bool {
-        let best_effort = request.start() == Start::BestEffort;
-        match self {
-            Asked::Nothing => false,
-            Asked::Anything => true,
-            Asked::Outbound => request.transmits(),
-            Asked::TxOrBestEffort => request.transmits() || best_effort,
-            Asked::BestEffort => best_effort,
-        }
-    }
-
-    /// Whether the queue may be empty: `Outbound` is met by a Tx that was seen, and in idle there is only waiting.
-    fn takes_none(self) -> bool {
-        matches!(self, Asked::TxOrBestEffort | Asked::BestEffort)
-    }
-}
-
-/// What the radio does, by the calls and the actions that they were told.
-#[derive(Clone, Copy, Debug, PartialEq, Eq)]
-enum Radio {
-    Off,
-    Receives,
-    Sends,
-}
-
 #[derive(Clone, Debug)]
 pub struct Book {
     count: u8,
@@ -89,13 +37,7 @@ pub struct Book {
     left: [u64; 4],
     /// The place of the Tx that OutboundSeen named, "its stop or the ask after its window ended still open".
     named: Option<u64>,
-    asked: Asked,
-    /// Code and rollback of the last action but "nothing".
-    action: u8,
-    rollback: bool,
-    /// What the radio does, and what it is to do next.
-    radio: Radio,
-    next: Radio,
+    told: Told,
 }
 
 /// An answer as the reply slice has it.
@@ -168,11 +110,7 @@ impl Book {
             arrivals: 0,
             left: [0; 4],
             named: None,
-            asked: Asked::Anything,
-            action: 1,
-            rollback: false,
-            radio: Radio::Off,
-            next: Radio::Off,
+            told: Told::by_start(),
         }
     }
 
@@ -199,7 +137,9 @@ impl Book {
     /// "which one a Request takes, it finds among its own waiting entries by the rule above": "the earliest arrival whose direction
     /// and start the wait allows". Where it stands among them.
     fn takes(&self) -> Option<usize> {
-        self.waiting.iter().position(|arrival| self.asked.allows(&arrival.request))
+        self.waiting
+            .iter()
+            .position(|arrival| self.told.asked.allows(&arrival.request))
     }
 
     fn earliest_tx(&self) -> Option<&Arrival> {
@@ -235,22 +175,22 @@ impl Book {
                 Some(arrival) if self.named != Some(arrival.place) => 0,
                 _ => 13,
             },
-            Call::Request if self.asked == Asked::Nothing => 5,
+            Call::Request if self.told.asked == Asked::Nothing => 5,
             // "a Request, now without fields, that finds none such is 9"
             Call::Request => self.takes().map_or(9, |_| 0),
             // "where a wait takes None, it now fits exactly if the line holds no such arrival"
-            Call::None => fits(self.asked.takes_none() && self.takes().is_none()),
-            Call::FrameStart => fits(self.action == 4),
+            Call::None => fits(self.told.asked.takes_none() && self.takes().is_none()),
+            Call::FrameStart => fits(self.told.action == 4),
             // "OutboundSeen fits only with the start and flag of its earliest Tx."
             Call::OutboundSeen(seen, flag) => fits(
-                self.action == 4
+                self.told.action == 4
                     && match self.earliest_tx().map(|arrival| arrival.request) {
                         Some(Request::Tx { start, check, .. }) => start == seen && check == flag,
                         _ => false,
                     },
             ),
             // "In every wait it fits only where rollback is on."
-            Call::Rollback => fits(self.rollback),
+            Call::Rollback => fits(self.told.rollback),
             Call::Stopped(_) | Call::Header { .. } | Call::Entered(..) | Call::Fallback(..) => return None,
         })
     }
@@ -318,8 +258,7 @@ impl Book {
             // "its stop or the ask after its window ended": that ask is the only one for an outbound request.
             _ => self.named.filter(|_| reply[0] == 3),
         };
-        self.asked = Asked::after(raw, reply[0]);
-        self.run_radio(call, reply);
+        self.told = self.told.after(call, reply);
         Ok(())
     }
 
@@ -404,7 +343,7 @@ impl Book {
         }
         // The one that OutboundSeen named leaves at the ask after its window ended: it waits there, and the ask is never met by 9.
         let waits = |named: u64| self.waiting.iter().any(|arrival| arrival.place == named);
-        if self.asked == Asked::Outbound && !self.named.is_some_and(waits) {
+        if self.told.asked == Asked::Outbound && !self.named.is_some_and(waits) {
             return Err(format!(
                 "an outbound request is asked for, but {:?} does not wait",
                 self.named
@@ -419,28 +358,10 @@ impl Book {
         }
     }
 
-    /// The radio is where the calls say that it is: "Entered", in what the last action named; after "Fallback" and after a window that
-    /// ended, off. Rollback leaves it where it was.
-    fn run_radio(&mut self, call: &Call, reply: &[u8]) {
-        use super::calls::Stop;
-        self.radio = match call {
-            Call::Entered(..) => self.next,
-            Call::Fallback(..) | Call::Stopped(Stop::WindowEnded(_)) => Radio::Off,
-            _ => self.radio,
-        };
-        self.action = reply[0];
-        self.rollback = reply[0] >= 9 && reply[3] & 2 != 0;
-        self.next = match reply[0] {
-            9 => Radio::Sends,
-            10 => Radio::Receives,
-            _ => Radio::Off,
-        };
-    }
-
     /// A call that fits next, by the last action alone: no list of calls leads to where none does. An arrival is named only where
     /// nothing waits and the service waits for a request.
     pub fn way_on(&self) -> Raw {
-        match self.action {
+        match self.told.action {
             1 if self.waiting.is_empty() => {
                 let free = (0..self.count)
                     .find(|buffer| !self.held.contains(buffer))
@@ -453,14 +374,7 @@ impl Book {
             4 => Raw::FrameStart,
             5..=7 => Raw::stopped(0, 0, 0, 0),
             8 => Raw::header(0, 0),
-            _ => {
-                let result = match self.radio {
-                    Radio::Off => 0,
-                    Radio::Sends => 1,
-                    Radio::Receives => 2,
-                };
-                Raw::entered(result, 1, 0, 0, 0)
-            }
+            _ => self.told.entered(),
         }
     }
 

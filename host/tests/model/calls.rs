@@ -390,11 +390,6 @@ impl Raw {
         }
     }
 
-    /// Whether it is a call on the line, which changes the line alone.
-    pub fn on_the_line(self) -> bool {
-        matches!(self, Raw::Arrive { .. } | Raw::Withdraw { .. })
-    }
-
     /// Which of the eleven calls it is, for counting.
     pub fn kind(self) -> usize {
         match self {

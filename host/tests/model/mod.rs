@@ -12,3 +12,4 @@ pub mod export;
 pub mod header;
 pub mod line;
 pub mod settings;
+pub mod told;

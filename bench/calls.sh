@@ -34,6 +34,8 @@ if ! command -v valgrind >/dev/null || ! command -v callgrind_annotate >/dev/nul
 fi
 echo "== instructions, by callgrind, of $rounds rounds"
 inside count
+echo "== the same with three requests more in the waiting line"
+inside waiting
 echo "== instructions of the header reader, over five frames, $rounds times"
 inside facts
 

@@ -86,8 +86,11 @@ WORDS = [
      "ReceivingAck Sent or Nack, Off and SendingAck none.|"
      "Rollback is on for Request(Receiving, Off) and AckTurn only.|"
      "Request(Off, Off) is not reached."),
-    (60, 905, 12, "normal", "Only accepted calls are drawn. A call or outcome that does not fit the wait is refused by 5, "
-     "a request whose direction or start is not allowed by 9. Answers stand in red, the answer for left first."),
+    (60, 905, 12, "normal", "Only accepted calls are drawn. A call or outcome that does not fit the wait is refused by 5. "
+     "Answers stand in red, the answer for left first.|"
+     "The waiting line: Arrive and Withdraw fit every wait and lead to no other. Request takes the earliest arrival whose direction "
+     "and start the ask allows (as drawn; none: 9); None fits only if none such waits.|"
+     "OutboundSeen fits only with the start and the flag of the line's earliest Tx."),
 ]
 
 
@@ -106,14 +109,14 @@ def box(x, y, w, h, fill, stroke):
     print(f'<rect x="{x}" y="{y}" width="{w}" height="{h}" rx="8" fill="{fill}" stroke="{stroke}"/>')
 
 
-print('<svg xmlns="http://www.w3.org/2000/svg" viewBox="0 0 1502 920" '
+print('<svg xmlns="http://www.w3.org/2000/svg" viewBox="0 0 1502 948" '
       'font-family="Liberation Sans, Arial, Helvetica, sans-serif">')
 print("<title>The waits and the calls between them</title>")
 print('<defs><marker id="a" viewBox="0 0 8 8" refX="8" refY="4" markerWidth="8" markerHeight="8" orient="auto">'
       '<path d="M0,0 L8,4 L0,8 z"/></marker>'
       '<marker id="j" viewBox="0 0 8 8" refX="4" refY="4" markerWidth="6" markerHeight="6">'
       '<circle cx="4" cy="4" r="4"/></marker></defs>')
-print('<rect width="1502" height="920" fill="white"/>')
+print('<rect width="1502" height="948" fill="white"/>')
 box(52, 60, 1380, 105, "#f4f8fe", "#9db7dc")
 box(52, 285, 1380, 105, "#fff9ec", "#d9b566")
 for line, place, words in CALLS:

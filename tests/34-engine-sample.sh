@@ -1,5 +1,5 @@
-# The rest of what driver_replay is run on, and of what it must print, is what the Rust service says (docs/REPLAY-FORMAT.md has what
-# of it is not the Rust's: refusal numbers and link qualities, among others).
+# The rest of what the replay programs are run on, and of what they must print, is what the Rust service says (docs/REPLAY-FORMAT.md has
+# what of it is not the Rust's: refusal numbers, link qualities and the line, among others).
 if ! [ -x target/oracle/target/oracle ]; then
     echo "no comparison with the Rust service: target/oracle/target/oracle was not built"
     exit 77

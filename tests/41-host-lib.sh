@@ -1,6 +1,6 @@
 # The host crate: its unit tests, its documented examples and its documentation; none of its functions can panic, nor can the
-# reader of captures; and the demonstration of the two cranes holds what it tells (it checks every answer, every mass and every link
-# quality itself) and prints the same twice.
+# reader of captures; and the demonstration of the two cranes holds what it tells (it checks every answer, every mass, every link
+# quality and what waits in a line itself) and prints the same twice.
 set -e
 for each in cargo "${RUSTC:-rustc}"; do
     if ! command -v "$each" >/dev/null; then
@@ -29,7 +29,7 @@ if command -v nm >/dev/null; then
     }
     compile --crate-name widosha --crate-type rlib host/src/lib.rs -l static=driver_c -l static=frame_c
     compile --crate-type staticlib -C lto=fat -C codegen-units=1 host/checks/no_panic.rs --extern widosha="$out/libwidosha.rlib"
-    for each in start step bytes facts end checksum capture; do
+    for each in start step bytes waiting facts end checksum capture; do
         if ! nm "$out/libno_panic.a" 2>/dev/null | grep -q " T $each\$"; then
             echo "the check for panics has no function $each"
             exit 1

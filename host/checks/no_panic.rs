@@ -66,6 +66,15 @@ pub extern "C" fn bytes(service: &mut DriverService<4>, buffer: u8, frame: &mut 
 }
 
 #[no_mangle]
+pub extern "C" fn waiting(service: &DriverService<4>, last: &mut Option<Request>) -> u32 {
+    let sum = service.waiting().fold(u32::from(service.line()[0]), |sum, request| {
+        *last = Some(request);
+        sum ^ request.token
+    });
+    sum ^ LINE_CAPACITY as u32
+}
+
+#[no_mangle]
 pub extern "C" fn facts(service: &DriverService<4>, answer: &Answer, info: &mut PreliminaryFrameInfo) -> usize {
     let Some(received) = service.received(answer) else { return 0 };
     *info = PreliminaryFrameInfo::of(received.frame);

@@ -1,20 +1,25 @@
-//! A mixed run over start and the nine calls: whole transmissions with and without ACK, receptions with an ACK turn, frames for
-//! others, windows that end, errors, and refusals. Every returned number is compared with the expected one.
+//! A mixed run over start and the eleven calls: whole transmissions with and without ACK, receptions with an ACK turn, frames for
+//! others, windows that end, errors, and refusals. A request arrives right before it is to leave, so that the line holds one at most.
+//! Every returned number is compared with the expected one.
 //!
 //!     bench_calls              prints calls and nanoseconds per call (fastest of 31 runs of 400 rounds)
 //!     bench_calls --count N    makes exactly N rounds and prints how often each function was called, for an instruction counter
-//!     bench_calls --accepted N the same with one start and, N times, the accepted calls of a round
-//!     bench_calls --script N   prints those in the language of the script runner of the Rust service
+//!     bench_calls --waiting N  the same with three requests more in the line, which no wait of the round allows but idle
+//!     bench_calls --accepted N the same as --count with one start and, N times, the accepted calls of a round
+//!     bench_calls --script N   prints those in the language of the script runner of the Rust service, which has a queue of its own:
+//!                              a request is in it where it leaves our line
 //!     bench_calls --facts N    reads the facts of five frames N times, and once each time into a slice of a wrong length
 
 use std::fmt::Write;
 use std::time::Instant;
 use widosha::ffi::*;
 
-const COUNT: u8 = 5;
+const COUNT: u8 = 8;
 const HEADROOM: usize = 2;
-const NAMES: [&str; 10] = [
+const NAMES: [&str; 12] = [
     "start",
+    "arrive",
+    "withdraw",
     "request",
     "none",
     "frame_start",
@@ -31,10 +36,13 @@ const NAMES: [&str; 10] = [
 enum Numbers {
     /// Headroom, ACK buffer, spare buffer; and the count.
     Start(u8, u8, u8, u8),
-    /// Token, start, buffer, length.
+    /// A Tx arrives: token, start, buffer, length.
     Tx(u32, Option<u64>, u8, u16),
-    /// Token, start, buffer.
+    /// An Rx arrives: token, start, buffer.
     Rx(u32, Option<u64>, u8),
+    /// Token.
+    Withdraw(u32),
+    Request,
     NoRequest,
     FrameStart,
     OutboundSeen(Option<u64>),
@@ -68,6 +76,7 @@ struct Step {
 
 struct Memory {
     state: [u8; STATE_LENGTH],
+    line: [u8; LINE_LENGTH],
     reply: [u8; REPLY_LENGTH],
     pool: [u8; BUFFER_LENGTH * COUNT as usize],
 }
@@ -105,42 +114,50 @@ impl Memory {
             _ => self.state.as_mut_ptr(),
         };
         let length = STATE_LENGTH - usize::from(step.state == State::Short);
-        let (reply, pool, all) = (self.reply.as_mut_ptr(), self.pool.as_mut_ptr(), self.pool.len());
-        // SAFETY: the state is valid for at least `length` bytes, reply and pool for their lengths, and they are three variables.
-        unsafe { call(step.numbers, (state, length), (reply, REPLY_LENGTH), (pool, all)) }
+        let line = (self.line.as_mut_ptr(), LINE_LENGTH);
+        let reply = (self.reply.as_mut_ptr(), REPLY_LENGTH);
+        let pool = (self.pool.as_mut_ptr(), self.pool.len());
+        // SAFETY: the state is valid for at least `length` bytes, the others for their lengths, and they are four variables.
+        unsafe { call(step.numbers, (state, length), line, reply, pool) }
     }
 }
 
 type Slice = (*mut u8, usize);
 
-unsafe fn call(numbers: Numbers, s: Slice, r: Slice, p: Slice) -> u8 {
+unsafe fn call(numbers: Numbers, s: Slice, l: Slice, r: Slice, p: Slice) -> u8 {
     match numbers {
         Numbers::Start(headroom, ack, spare, count) => widosha_start(
-            count, headroom, 0, 2, HARDWARE, PAN, 0, ack, spare, s.0, s.1, r.0, r.1, p.0, p.1,
+            count, headroom, 0, 2, HARDWARE, PAN, 0, ack, spare, s.0, s.1, l.0, l.1, r.0, r.1, p.0, p.1,
         ),
         Numbers::Tx(token, start, buffer, length) => {
             let (start, time) = timed(start);
-            widosha_request(token, 0, start, time, buffer, length, 1, s.0, s.1, r.0, r.1, p.0, p.1)
+            widosha_arrive(
+                token, 0, start, time, buffer, length, 1, s.0, s.1, l.0, l.1, r.0, r.1, p.0, p.1,
+            )
         }
         Numbers::Rx(token, start, buffer) => {
             let (start, time) = timed(start);
-            widosha_request(token, 1, start, time, buffer, 0, 0, s.0, s.1, r.0, r.1, p.0, p.1)
+            widosha_arrive(token, 1, start, time, buffer, 0, 0, s.0, s.1, l.0, l.1, r.0, r.1, p.0, p.1)
         }
-        Numbers::NoRequest => widosha_none(s.0, s.1, r.0, r.1, p.0, p.1),
-        Numbers::FrameStart => widosha_frame_start(s.0, s.1, r.0, r.1, p.0, p.1),
+        Numbers::Withdraw(token) => widosha_withdraw(token, s.0, s.1, l.0, l.1, r.0, r.1, p.0, p.1),
+        Numbers::Request => widosha_request(s.0, s.1, l.0, l.1, r.0, r.1, p.0, p.1),
+        Numbers::NoRequest => widosha_none(s.0, s.1, l.0, l.1, r.0, r.1, p.0, p.1),
+        Numbers::FrameStart => widosha_frame_start(s.0, s.1, l.0, l.1, r.0, r.1, p.0, p.1),
         Numbers::OutboundSeen(start) => {
             let (start, time) = timed(start);
-            widosha_outbound_seen(start, time, 1, s.0, s.1, r.0, r.1, p.0, p.1)
+            widosha_outbound_seen(start, time, 1, s.0, s.1, l.0, l.1, r.0, r.1, p.0, p.1)
         }
-        Numbers::Stopped(outcome, length) => widosha_stopped(outcome, length, TIME, QUALITY, s.0, s.1, r.0, r.1, p.0, p.1),
-        Numbers::Header(arrived) => widosha_header(arrived, 17, s.0, s.1, r.0, r.1, p.0, p.1),
+        Numbers::Stopped(outcome, length) => {
+            widosha_stopped(outcome, length, TIME, QUALITY, s.0, s.1, l.0, l.1, r.0, r.1, p.0, p.1)
+        }
+        Numbers::Header(arrived) => widosha_header(arrived, 17, s.0, s.1, l.0, l.1, r.0, r.1, p.0, p.1),
         Numbers::Entered(result, length, entry) => {
-            widosha_entered(result, length, TIME, entry, QUALITY, s.0, s.1, r.0, r.1, p.0, p.1)
+            widosha_entered(result, length, TIME, entry, QUALITY, s.0, s.1, l.0, l.1, r.0, r.1, p.0, p.1)
         }
-        Numbers::Fallback(result, length, cause) => {
-            widosha_fallback(result, length, TIME, cause, TIME, QUALITY, s.0, s.1, r.0, r.1, p.0, p.1)
-        }
-        Numbers::Rollback => widosha_rollback(s.0, s.1, r.0, r.1, p.0, p.1),
+        Numbers::Fallback(result, length, cause) => widosha_fallback(
+            result, length, TIME, cause, TIME, QUALITY, s.0, s.1, l.0, l.1, r.0, r.1, p.0, p.1,
+        ),
+        Numbers::Rollback => widosha_rollback(s.0, s.1, l.0, l.1, r.0, r.1, p.0, p.1),
     }
 }
 
@@ -148,14 +165,16 @@ fn function(numbers: Numbers) -> usize {
     match numbers {
         Numbers::Start(..) => 0,
         Numbers::Tx(..) | Numbers::Rx(..) => 1,
-        Numbers::NoRequest => 2,
-        Numbers::FrameStart => 3,
-        Numbers::OutboundSeen(_) => 4,
-        Numbers::Stopped(..) => 5,
-        Numbers::Header(_) => 6,
-        Numbers::Entered(..) => 7,
-        Numbers::Fallback(..) => 8,
-        Numbers::Rollback => 9,
+        Numbers::Withdraw(_) => 2,
+        Numbers::Request => 3,
+        Numbers::NoRequest => 4,
+        Numbers::FrameStart => 5,
+        Numbers::OutboundSeen(_) => 6,
+        Numbers::Stopped(..) => 7,
+        Numbers::Header(_) => 8,
+        Numbers::Entered(..) => 9,
+        Numbers::Fallback(..) => 10,
+        Numbers::Rollback => 11,
     }
 }
 
@@ -200,7 +219,7 @@ fn round() -> Vec<Step> {
     [transmissions(), receptions(), waits_that_end(), chains()].concat()
 }
 
-/// Start and its refusals; a whole Tx with its ACK, and one that wants none.
+/// Start and its refusals; a whole Tx with its ACK, and one that wants none, during which a request arrives that may not follow it.
 fn transmissions() -> Vec<Step> {
     use Numbers::*;
     vec![
@@ -214,6 +233,7 @@ fn transmissions() -> Vec<Step> {
         refused(7, Rx(1, None, 1)),
         refused(8, Tx(1, None, 2, 2)),
         on(2, TX_ACK, Tx(1, None, 2, 15)),
+        ok(Request),
         ok(Entered(OFF, 0, TIME)),
         refused(11, Entered(SENT, 0, u64::MAX - 9_999)),
         ok(Entered(SENT, 0, TIME)),
@@ -222,10 +242,13 @@ fn transmissions() -> Vec<Step> {
         refused(5, Entered(ENDED, 0, TIME)),
         on(1, ACK, Entered(FRAME, 3, TIME)),
         on(2, TX_PLAIN, Tx(2, Some(TIME), 2, 15)),
+        ok(Request),
         ok(Entered(OFF, 0, TIME)),
         refused(6, Rx(2, None, 3)),
-        refused(9, Rx(3, Some(TIME), 3)),
+        ok(Rx(3, Some(TIME), 3)),
+        refused(9, Request),
         ok(NoRequest),
+        ok(Withdraw(3)),
         ok(Entered(SENT, 0, TIME)),
     ]
 }
@@ -236,6 +259,7 @@ fn receptions() -> Vec<Step> {
     use Numbers::*;
     vec![
         ok(Rx(3, None, 3)),
+        ok(Request),
         ok(Entered(OFF, 0, TIME)),
         ok(FrameStart),
         ok(Stopped(0, 0)),
@@ -244,6 +268,7 @@ fn receptions() -> Vec<Step> {
         refused(10, Entered(FRAME, 0, TIME)),
         ok(Entered(FRAME, 15, TIME)),
         ok(Rx(4, None, 3)),
+        ok(Request),
         ok(Entered(SENT, 0, TIME)),
         ok(FrameStart),
         ok(Stopped(0, 0)),
@@ -262,11 +287,13 @@ fn receptions() -> Vec<Step> {
         ok(Stopped(0, 0)),
         ok(Header(15)),
         on(2, TX_ACK, Tx(5, Some(TIME), 2, 15)),
+        ok(Request),
         ok(Entered(FRAME, 15, TIME)),
     ]
 }
 
-/// The ACK's window fails to stop once and ends; a listening window ends for a Tx, which falls back.
+/// The ACK's window fails to stop once and ends; a listening window ends for a Tx, which falls back. Before, one that was seen is
+/// withdrawn.
 fn waits_that_end() -> Vec<Step> {
     use Numbers::*;
     vec![
@@ -274,13 +301,17 @@ fn waits_that_end() -> Vec<Step> {
         ok(Stopped(1, 0)),
         ok(Stopped(3, 0)),
         ok(Rx(6, None, 4)),
+        ok(Request),
         ok(Entered(OFF, 0, TIME)),
+        ok(Tx(7, Some(TIME), 2, 15)),
         ok(OutboundSeen(Some(TIME))),
         ok(Stopped(1, 0)),
+        ok(Withdraw(7)),
+        on(2, TX_PLAIN, Tx(7, None, 2, 15)),
         ok(OutboundSeen(None)),
         ok(Stopped(3, 0)),
         refused(5, NoRequest),
-        on(2, TX_PLAIN, Tx(7, None, 2, 15)),
+        ok(Request),
         ok(Fallback(OFF, 0, 2)),
     ]
 }
@@ -290,10 +321,13 @@ fn chains() -> Vec<Step> {
     use Numbers::*;
     vec![
         on(2, TX_PLAIN, Tx(8, None, 2, 15)),
+        ok(Request),
         ok(Entered(OFF, 0, TIME)),
         on(4, TX_PLAIN, Tx(9, None, 4, 15)),
+        ok(Request),
         ok(Entered(SENT, 0, TIME)),
         ok(Rx(10, None, 2)),
+        ok(Request),
         ok(Entered(SENT, 0, TIME)),
         ok(FrameStart),
         ok(Stopped(0, 0)),
@@ -306,6 +340,28 @@ fn chains() -> Vec<Step> {
         ok(NoRequest),
         ok(Entered(SENT, 0, TIME)),
     ]
+}
+
+/// The same round with three timed receive requests in the line. No wait of it allows them but idle: there they are withdrawn for as
+/// long as the request of the round takes.
+fn with_three_waiting(steps: &[Step], memory: &mut Memory) -> Vec<Step> {
+    let three = [(101, 5), (102, 6), (103, 7)];
+    let arrivals = three.map(|(token, buffer)| ok(Numbers::Rx(token, Some(TIME), buffer)));
+    let withdrawals = three.map(|(token, _)| ok(Numbers::Withdraw(token)));
+    let (mut all, mut waiting) = (Vec::new(), false);
+    for step in steps {
+        let from_idle = matches!(step.numbers, Numbers::Request) && memory.state[17..19] == [0, 0];
+        assert_eq!(memory.make(step), step.returns);
+        if from_idle && waiting {
+            all.extend(withdrawals);
+        }
+        all.push(*step);
+        if from_idle {
+            all.extend(arrivals);
+        }
+        waiting |= from_idle;
+    }
+    all
 }
 
 // ---- Running it
@@ -337,8 +393,30 @@ fn count(steps: &[Step], rounds: u32) {
     }
 }
 
-/// One step as lines of the script language of the Rust service's runner, which knows no link quality.
-fn script(step: &Step) -> String {
+/// One step as lines of the script language of the Rust service's runner. What waits in our line is kept in `waiting`, and stands in
+/// its queue no sooner than our Request takes it: a call on the line is no line of the script.
+fn script(step: &Step, waiting: &mut Vec<Numbers>) -> String {
+    let mut text = String::new();
+    if let Some((buffer, bytes)) = step.write {
+        let hex: String = bytes.iter().map(|byte| format!("{byte:02x}")).collect();
+        writeln!(text, "pool {buffer} {HEADROOM} {hex}").expect("a string takes all text");
+    }
+    match step.numbers {
+        Numbers::Tx(..) | Numbers::Rx(..) => waiting.push(step.numbers),
+        Numbers::Withdraw(token) => {
+            waiting.retain(|each| !matches!(each, Numbers::Tx(held, ..) | Numbers::Rx(held, ..) if *held == token));
+        }
+        Numbers::Request => {
+            assert_eq!(waiting.len(), 1, "so there is no question which one leaves");
+            text += &script_line(waiting.remove(0));
+        }
+        numbers => text += &script_line(numbers),
+    }
+    text
+}
+
+/// A call in that language, which knows no link quality; a request with the fields that it arrived with.
+fn script_line(numbers: Numbers) -> String {
     let start = |start: Option<u64>| start.map_or("best".to_string(), |time| time.to_string());
     let result = |result, length| match result {
         OFF => "off".to_string(),
@@ -347,15 +425,11 @@ fn script(step: &Step) -> String {
         ENDED => "ended".to_string(),
         _ => format!("crc:{TIME}"),
     };
-    let mut text = String::new();
-    if let Some((buffer, bytes)) = step.write {
-        let hex: String = bytes.iter().map(|byte| format!("{byte:02x}")).collect();
-        writeln!(text, "pool {buffer} {HEADROOM} {hex}").expect("a string takes all text");
-    }
-    text + &match step.numbers {
+    let call = match numbers {
         Numbers::Start(h, ack, spare, n) => format!("start {n} {h} 0 2 {HARDWARE:016x} {PAN:04x} 0 {ack} {spare}"),
         Numbers::Tx(token, at, buffer, length) => format!("request {token} tx {} {buffer} {length} 1", start(at)),
         Numbers::Rx(token, at, buffer) => format!("request {token} rx {} {buffer}", start(at)),
+        Numbers::Withdraw(_) | Numbers::Request => panic!("these have no line of their own"),
         Numbers::NoRequest => "none".into(),
         Numbers::FrameStart => "framestart".into(),
         Numbers::OutboundSeen(at) => format!("outbound {} 1", start(at)),
@@ -366,7 +440,8 @@ fn script(step: &Step) -> String {
         Numbers::Entered(what, length, entry) => format!("entered {} {entry}", result(what, length)),
         Numbers::Fallback(what, length, _) => format!("fallback {} task", result(what, length)),
         Numbers::Rollback => "rollback".into(),
-    }
+    };
+    call + "\n"
 }
 
 /// Of the accepted calls, the start, and those after it. A round of these begins and ends idle with the same spare buffer.
@@ -419,6 +494,7 @@ fn main() {
     let steps = round();
     let mut memory = Memory {
         state: [0; STATE_LENGTH],
+        line: [0; LINE_LENGTH],
         reply: [0; REPLY_LENGTH],
         pool: [0; BUFFER_LENGTH * COUNT as usize],
     };
@@ -426,6 +502,11 @@ fn main() {
     let rounds: Option<u32> = arguments.get(1).and_then(|text| text.parse().ok());
     match (arguments.first().map(String::as_str), rounds) {
         (Some("--count"), Some(rounds)) => {
+            (0..rounds).for_each(|_| check(&mut memory, &steps));
+            count(&steps, rounds);
+        }
+        (Some("--waiting"), Some(rounds)) => {
+            let steps = with_three_waiting(&steps, &mut memory);
             (0..rounds).for_each(|_| check(&mut memory, &steps));
             count(&steps, rounds);
         }
@@ -438,10 +519,14 @@ fn main() {
         (Some("--script"), Some(rounds)) => {
             let (start, rest) = accepted(&steps);
             let rest = std::iter::repeat_n(&rest, rounds as usize).flatten();
-            start.iter().chain(rest).for_each(|step| println!("{}", script(step)));
+            let mut waiting = Vec::new();
+            start
+                .iter()
+                .chain(rest)
+                .for_each(|step| print!("{}", script(step, &mut waiting)));
         }
         (Some("--facts"), Some(rounds)) => facts(rounds),
         (None, None) => time(&mut memory, &steps),
-        _ => panic!("bench_calls [--count N | --accepted N | --script N | --facts N]"),
+        _ => panic!("bench_calls [--count N | --waiting N | --accepted N | --script N | --facts N]"),
     }
 }

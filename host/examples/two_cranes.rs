@@ -3,9 +3,10 @@
 //!
 //! From the second scene to the sixth crane A's frame is lost, and an acknowledgement of crane B arrives where cell A waits for its
 //! own. A hub knows no cell: it names the one that weighed a box as the header of the received frame does. In the seventh the
-//! port's coordinator broadcasts the time, and four cells hear it. Each frame that is received has a link quality; by these the
-//! last table names the aerial that is bent. The program checks what it tells: it ends with an error if an answer, a mass, a cell,
-//! a time, a link quality or what is on the air is not the expected one.
+//! port's coordinator broadcasts the time, and four cells hear it. In the eighth a cell fills its waiting line. Each frame that is
+//! received has a link quality; by these the last table names the aerial that is bent. The program checks what it tells: it ends
+//! with an error if an answer, a mass, a cell, a time, a link quality, what waits in a line or what is on the air is not the
+//! expected one.
 
 #[path = "two_cranes/air.rs"]
 mod air;
@@ -19,7 +20,7 @@ mod world;
 use air::Who::{self, CellA, CellB, CellC, CellD, HandsetB, HubA, HubB, Port, ReaderB};
 use air::{Air, MICROSECOND};
 use station::{Heard, Link, Sender, Station, Told, Wanted, Weighed, Weighing};
-use widosha::{Address, PreliminaryFrameInfo, Response};
+use widosha::{Address, Asked, Call, PreliminaryFrameInfo, Response, Wait};
 use words::tonnes;
 use world::{sender_of, Event, Show, World, TURNAROUND};
 
@@ -48,7 +49,7 @@ fn weigh(world: &mut World, microseconds: u64, who: Who, container: &'static str
         kilograms: known.2,
         number,
     };
-    world.plan_event(microseconds, Event::Queue(who, Wanted::Send(weighing)));
+    world.plan_event(microseconds, Event::Want(who, Wanted::Send(weighing)));
 }
 
 /// Crane B's devices of another make: the handset sends 2 µs after cell A, and the reader sends this at this time.
@@ -117,7 +118,7 @@ fn wrong_wait(world: &mut World) {
     title("5. A perfect ACK for 44, but 230 microseconds too late: cell A is in another wait by then, listening for orders.");
     world.scene(Show::AllCallsOf(CellA));
     weigh(world, 0, CellA, "A5", 0x44);
-    world.plan_event(500, Event::Queue(CellA, Wanted::Receive));
+    world.plan_event(500, Event::Want(CellA, Wanted::Receive));
     strangers(world, 0x44, 1_360, &[0x02, 0x00, 0x44]);
     world.run();
     assert_eq!(answers(world, "A5"), "NS");
@@ -159,7 +160,7 @@ fn time_broadcast() -> Vec<Link> {
     let mut world = World::new(stations);
     world.scene(Show::AllCallsOf(CellA));
     for (cell, ..) in CELLS {
-        world.plan_event(0, Event::Queue(cell, Wanted::Receive));
+        world.plan_event(0, Event::Want(cell, Wanted::Receive));
     }
     world.plan_event(300, Event::Send(Port, TIME_BROADCAST.to_vec()));
     world.run();
@@ -220,9 +221,9 @@ fn weigh_right_after(world: &mut World, instead: &Air) {
         number,
     };
     world.show = Show::Nothing;
-    world.plan_event(1_050, Event::Queue(HubA, Wanted::Receive));
-    world.plan_event(1_240, Event::Queue(CellA, Wanted::Send(weighing)));
-    assert!(instead.is_busy(1_240 * MICROSECOND));
+    world.plan_event(1_050, Event::Want(HubA, Wanted::Receive));
+    world.plan_event(1_240, Event::Want(CellA, Wanted::Send(weighing)));
+    assert!(instead.is_busy(1_240 * MICROSECOND, CellA));
     println!(
         "        Hub A now listens, and cell A weighs a box at 1240. Its channel check finds the air free, not four ACKs on it:"
     );
@@ -231,6 +232,120 @@ fn weigh_right_after(world: &mut World, instead: &Air) {
     let by = world.stations[0].as_sender();
     assert_eq!(world.plan.get(container), Some(&Weighed { kilograms, by }));
     assert_eq!(world.air.frames.len(), 3, "the broadcast, the weighing and its ACK");
+}
+
+// ---- A full line, in a world of its own too: cell B has been out of its hub's hearing and now hands in what it has kept.
+
+/// The calls of cell B that its line decides, each with what it returned and what waits then.
+const LINE_OF_B: [(&str, u8, &str); 16] = [
+    ("Arrive: report", 0, "report"),
+    ("Request: report", 0, ""),
+    ("Arrive: box B3 at 3000", 0, "box B3 at 3000"),
+    ("Arrive: box B4", 0, "box B3 at 3000, box B4"),
+    ("Arrive: box B5", 0, "box B3 at 3000, box B4, box B5"),
+    ("Arrive: receive", 0, "box B3 at 3000, box B4, box B5, receive"),
+    ("Arrive: box B6", 12, "box B3 at 3000, box B4, box B5, receive"),
+    ("Withdraw: box B5", 0, "box B3 at 3000, box B4, receive"),
+    ("Arrive: box B6", 0, "box B3 at 3000, box B4, receive, box B6"),
+    ("Request: box B4", 0, "box B3 at 3000, receive, box B6"),
+    ("Request: box B3 at 3000", 0, "receive, box B6"),
+    ("Request: receive", 0, "box B6"),
+    ("OutboundSeen", 0, "box B6"),
+    ("Request: box B6", 0, ""),
+    ("Request: nothing", 9, ""),
+    ("None: no request waits", 0, ""),
+];
+
+fn full_line() {
+    title("8. Cell B was out of hearing. Four wait, a fifth is told 12, one is withdrawn, and box B4 passes B3, which has a time.");
+    let stations = vec![Station::new(HubB, 0xB00B, 0x0B00), Station::new(CellB, 0xB00B, 0x0B01)];
+    let mut world = World::new(stations);
+    world.scene(Show::AllCallsOf(CellB));
+    let box_of = |container, kilograms, number| Weighing {
+        container,
+        kilograms,
+        number,
+    };
+    let (b3, b4) = (box_of("B3", 19_300, 0x51), box_of("B4", 8_700, 0x52));
+    let (b5, b6) = (box_of("B5", 21_500, 0x53), box_of("B6", 14_900, 0x54));
+    world.plan_event(0, Event::Want(HubB, Wanted::Receive));
+    world.plan_event(300, Event::Want(CellB, Wanted::Report(0x50, 71)));
+    let kept = [
+        Wanted::SendAt(b3, world.at(3_000)),
+        Wanted::Send(b4),
+        Wanted::Send(b5),
+        Wanted::Receive,
+        Wanted::Send(b6),
+    ];
+    for wanted in kept {
+        world.plan_event(310, Event::Want(CellB, wanted));
+    }
+    // The crane sets box B5 down again.
+    world.plan_event(330, Event::Withdraw(CellB, Wanted::Send(b5)));
+    world.run();
+    check_line(&world);
+    check_left(&world, [b4, b3, b6]);
+    println!(
+        "        While it sends the report, which wants no ACK, only what has no time may follow: box B4 passed B3, which left at"
+    );
+    println!(
+        "        the next ask and had its time. Box B5 was set down again and never was on the air; its place was free for box B6."
+    );
+}
+
+/// The line of cell B after each call that it decides, and the wait in which box B4 passed box B3.
+fn check_line(world: &World) {
+    let of_line = |call: &Call| !matches!(call, Call::Stopped(_) | Call::Entered { .. });
+    let calls = world.calls.iter().filter(|(who, made)| *who == CellB && of_line(&made.call));
+    let since = world.at(0);
+    let found: Vec<(String, u8, String)> = calls
+        .map(|(_, made)| {
+            let line: Vec<String> = made.line.iter().map(|wanted| words::wanted_by(wanted, since)).collect();
+            let returned = made.result.map_or_else(|refusal| refusal.number(), |_| 0);
+            (words::call(made, since), returned, line.join(", "))
+        })
+        .collect();
+    let expected = LINE_OF_B.map(|(call, returned, line)| (call.into(), returned, line.into()));
+    assert_eq!(found, expected);
+    let passing = world
+        .calls
+        .iter()
+        .find(|(_, made)| words::call(made, since) == "Request: box B4");
+    let wait = passing.expect("it is in the table").1.found;
+    assert_eq!(
+        wait,
+        Some(Wait::Asking(Asked::Sending)),
+        "where nothing with a time is allowed"
+    );
+}
+
+/// What left the line was sent in that order, B3 at its time, and is answered; the withdrawn box never was on the air.
+fn check_left(world: &World, boxes: [Weighing; 3]) {
+    let cell = &world.stations[1];
+    let sent: Vec<&[u8]> = world
+        .air
+        .frames
+        .iter()
+        .filter(|frame| frame.from == CellB)
+        .map(|frame| &frame.bytes[..])
+        .collect();
+    assert_eq!(sent.len(), 1 + boxes.len());
+    assert_eq!(sent[0][9..], [71], "the report's content");
+    for (bytes, weighing) in sent[1..].iter().zip(&boxes) {
+        assert_eq!(&bytes[9..11], weighing.container.as_bytes());
+        let (kilograms, by) = (weighing.kilograms, cell.as_sender());
+        assert_eq!(world.plan.get(weighing.container), Some(&Weighed { kilograms, by }));
+        assert_eq!(answers(world, weighing.container), "S");
+    }
+    let slot = world.air.frames.iter().find(|frame| frame.bytes.get(9..11) == Some(b"B3"));
+    assert_eq!(
+        slot.map(|frame| frame.begin),
+        Some(world.at(3_002)),
+        "2 microseconds after it was sent"
+    );
+    assert_eq!((world.plan.get("B5"), answers(world, "B5")), (None, String::new()));
+    assert_eq!(world.charges, [(cell.as_sender(), 71)]);
+    assert!(cell.open.is_empty(), "every other request is answered");
 }
 
 // ---- The second evaluation. All rules but the first are deliberately wrong and are nowhere in the driver.
@@ -320,7 +435,9 @@ const AERIALS: [(usize, usize, bool); 4] = [(4, 7, true), (0, 3, false), (0, 1, 
 
 /// Each cell's aerial, by the frames that went through it and were received: its own at its hub, and the port's at the cell.
 fn show_aerials(world: &World, links: &[Link]) {
-    title("Is cell A at fault? Frames through each cell's aerial, to its hub or from the port, and their link quality (0 to 255)");
+    title(
+        "Is cell A at fault? Scenes 1 to 7: frames through each cell's aerial, to its hub or from the port, and their link quality",
+    );
     println!("cell    Nacks  frames  lowest  mean");
     for ((who, pan, address), expected) in CELLS.into_iter().zip(AERIALS) {
         let cell = Sender {
@@ -366,13 +483,14 @@ fn main() {
     println!("Link quality (0 to 255) is what the radio told of that very frame, as the driver's answer has it.");
     world.scene(Show::Nothing);
     for hub in [HubA, HubB] {
-        world.plan_event(0, Event::Queue(hub, Wanted::Receive));
+        world.plan_event(0, Event::Want(hub, Wanted::Receive));
     }
     world.run();
     for scene in [quiet_exchange, one_bit, pending_bit, four_bytes, wrong_wait, same_number] {
         scene(&mut world);
     }
     let mut links = time_broadcast();
+    full_line();
     links.extend(&world.links);
     for Container(name, _, kilograms) in CONTAINERS {
         let by = cell_of(&world, name);

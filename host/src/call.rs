@@ -23,10 +23,11 @@ pub enum Task {
     Rx,
 }
 
-/// A request of the host. Its buffer is lent to the service until the answer returns one.
+/// A request of the host. It arrives in the waiting line, and its buffer is lent to the service from then on, until the answer
+/// returns one or the request is withdrawn.
 #[derive(Clone, Copy, Debug, PartialEq, Eq)]
 pub struct Request {
-    /// Comes back with the answer. Two unanswered requests cannot have one token.
+    /// Comes back with the answer. Two unanswered requests cannot have one token, whether they wait or have left the line.
     pub token: u32,
     /// When it is to start.
     pub start: Timestamp,
@@ -94,16 +95,23 @@ pub enum Cause {
     Task,
 }
 
-/// The nine calls.
+/// The eleven calls.
 #[derive(Clone, Copy, Debug, PartialEq, Eq)]
 pub enum Call {
-    /// A request, when one is waited or asked for.
-    Request(Request),
-    /// No request waits.
+    /// This request arrives in the waiting line. It fits every wait.
+    Arrive(Request),
+    /// The waiting request with this token leaves the line and is not answered. It fits every wait.
+    Withdraw {
+        /// The token of the request.
+        token: u32,
+    },
+    /// Where a request is waited or asked for: the earliest arrival that the wait allows is taken from the line.
+    Request,
+    /// No request waits that the wait allows.
     None,
     /// A frame starts while the radio listens.
     FrameStart,
-    /// An outbound request waits while the radio listens.
+    /// The earliest outbound request of the line is seen while the radio listens.
     OutboundSeen {
         /// Its start.
         start: Timestamp,

@@ -10,6 +10,8 @@
 
 /// Length of the state slice in bytes.
 pub const STATE_LENGTH: usize = 64;
+/// Length of the line slice in bytes.
+pub const LINE_LENGTH: usize = 96;
 /// Length of the reply slice in bytes.
 pub const REPLY_LENGTH: usize = 48;
 /// Length of one buffer of the pool in bytes.
@@ -25,7 +27,7 @@ pub const FCS_NO: u8 = 255;
 pub const FCS_REFUSED: u8 = 14;
 
 unsafe extern "C" {
-    /// Checks the settings, writes the first state, and writes 02 10 00 into the ACK buffer's frame.
+    /// Checks the settings, writes the first state and an empty line, and writes 02 10 00 into the ACK buffer's frame.
     pub fn widosha_start(
         count: u8,
         headroom: u8,
@@ -38,14 +40,16 @@ unsafe extern "C" {
         spare_buffer: u8,
         state: *mut u8,
         state_len: usize,
+        line: *mut u8,
+        line_len: usize,
         reply: *mut u8,
         reply_len: usize,
         pool: *mut u8,
         pool_len: usize,
     ) -> u8;
 
-    /// A request of the host.
-    pub fn widosha_request(
+    /// A request of the host arrives in the waiting line.
+    pub fn widosha_arrive(
         token: u32,
         direction: u8,
         start: u8,
@@ -55,32 +59,72 @@ unsafe extern "C" {
         cca: u8,
         state: *mut u8,
         state_len: usize,
+        line: *mut u8,
+        line_len: usize,
         reply: *mut u8,
         reply_len: usize,
         pool: *mut u8,
         pool_len: usize,
     ) -> u8;
 
-    /// No request waits.
-    pub fn widosha_none(state: *mut u8, state_len: usize, reply: *mut u8, reply_len: usize, pool: *mut u8, pool_len: usize) -> u8;
+    /// The waiting request with this token leaves the line unanswered.
+    pub fn widosha_withdraw(
+        token: u32,
+        state: *mut u8,
+        state_len: usize,
+        line: *mut u8,
+        line_len: usize,
+        reply: *mut u8,
+        reply_len: usize,
+        pool: *mut u8,
+        pool_len: usize,
+    ) -> u8;
+
+    /// The earliest waiting request that the wait allows leaves the line and is taken.
+    pub fn widosha_request(
+        state: *mut u8,
+        state_len: usize,
+        line: *mut u8,
+        line_len: usize,
+        reply: *mut u8,
+        reply_len: usize,
+        pool: *mut u8,
+        pool_len: usize,
+    ) -> u8;
+
+    /// No request waits that the wait allows.
+    pub fn widosha_none(
+        state: *mut u8,
+        state_len: usize,
+        line: *mut u8,
+        line_len: usize,
+        reply: *mut u8,
+        reply_len: usize,
+        pool: *mut u8,
+        pool_len: usize,
+    ) -> u8;
 
     /// A frame starts while the radio listens.
     pub fn widosha_frame_start(
         state: *mut u8,
         state_len: usize,
+        line: *mut u8,
+        line_len: usize,
         reply: *mut u8,
         reply_len: usize,
         pool: *mut u8,
         pool_len: usize,
     ) -> u8;
 
-    /// An outbound request waits while the radio listens.
+    /// The earliest outbound request of the line is seen while the radio listens.
     pub fn widosha_outbound_seen(
         start: u8,
         time: u64,
         cca: u8,
         state: *mut u8,
         state_len: usize,
+        line: *mut u8,
+        line_len: usize,
         reply: *mut u8,
         reply_len: usize,
         pool: *mut u8,
@@ -95,6 +139,8 @@ unsafe extern "C" {
         quality: u8,
         state: *mut u8,
         state_len: usize,
+        line: *mut u8,
+        line_len: usize,
         reply: *mut u8,
         reply_len: usize,
         pool: *mut u8,
@@ -107,6 +153,8 @@ unsafe extern "C" {
         length: u16,
         state: *mut u8,
         state_len: usize,
+        line: *mut u8,
+        line_len: usize,
         reply: *mut u8,
         reply_len: usize,
         pool: *mut u8,
@@ -122,6 +170,8 @@ unsafe extern "C" {
         quality: u8,
         state: *mut u8,
         state_len: usize,
+        line: *mut u8,
+        line_len: usize,
         reply: *mut u8,
         reply_len: usize,
         pool: *mut u8,
@@ -138,6 +188,8 @@ unsafe extern "C" {
         quality: u8,
         state: *mut u8,
         state_len: usize,
+        line: *mut u8,
+        line_len: usize,
         reply: *mut u8,
         reply_len: usize,
         pool: *mut u8,
@@ -148,6 +200,8 @@ unsafe extern "C" {
     pub fn widosha_rollback(
         state: *mut u8,
         state_len: usize,
+        line: *mut u8,
+        line_len: usize,
         reply: *mut u8,
         reply_len: usize,
         pool: *mut u8,

@@ -1,7 +1,8 @@
 //! Safe Rust over the proved IEEE 802.15.4 driver service.
 //!
 //! The service stands between the requests of a MAC and the radio. It is a machine that takes one call at a time: the host or the
-//! radio says what happened, and the reply says what the radio or the queue is to do next and which requests are answered. Beside
+//! radio says what happened, and the reply says what the radio or the host is to do next and which requests are answered. Requests
+//! arrive in its waiting line, where four can wait, and leave it when the service asks and the host answers with `request`. Beside
 //! it stand the header reader, which says of a frame's bytes who sent it and to whom, and `fcs` and `check_fcs`, which work out
 //! and check the checksum of a captured frame. The libraries `driver_c` and `frame_c` behind them are written and proved in
 //! Rattle; what is proved of them, and what is not, stands in the README of the repository. Here their numbers and byte slices
@@ -30,7 +31,9 @@
 //! let frame = [0x61, 0x88, 7, 0x34, 0x12, 0x00, 0x00, 0x01, 0x00, 0xc0, 0x5d, 0x00];
 //! let length = cell.put_frame(2, &frame).expect("buffer 2 is there and not the ACK's");
 //! let weighing = Request { token: 1, start: Timestamp::BestEffort, buffer: 2, task: Task::Tx { length, cca: true } };
-//! let asked = cell.request(weighing)?;
+//! cell.arrive(weighing)?;
+//! assert_eq!(cell.waiting().next(), Some(weighing));
+//! let asked = cell.request()?;
 //! assert!(matches!(asked.action, Action::Tx { buffer: 2, length: 12, cca: true, .. }));
 //!
 //! // The radio sends, then listens for the ACK, at the latest until 10 microseconds after it began to.
@@ -69,7 +72,8 @@
 //! # };
 //! # let frame = [0x61, 0x88, 7, 0x34, 0x12, 0x00, 0x00, 0x01, 0x00, 0xc0, 0x5d, 0x00];
 //! let (mut hub, _) = DriverService::start(settings, Pool::<3>::new())?;
-//! hub.request(Request { token: 5, start: Timestamp::BestEffort, buffer: 2, task: Task::Rx })?;
+//! hub.arrive(Request { token: 5, start: Timestamp::BestEffort, buffer: 2, task: Task::Rx })?;
+//! hub.request()?;
 //! hub.entered(TaskResult::Off, 0)?;
 //!
 //! // A frame starts, and its header is for the hub, which is to send an ACK once the frame is there. For a broadcast it would not.
@@ -102,6 +106,7 @@ mod fcs;
 #[allow(unsafe_code)]
 pub mod ffi;
 mod info;
+mod line;
 mod raw;
 mod reply;
 mod service;
@@ -111,6 +116,7 @@ mod wait;
 pub use call::{Call, Cause, Request, RxResult, StopResult, Task, TaskResult, Timestamp};
 pub use fcs::{check_fcs, fcs};
 pub use info::{Address, AddressingFields, PreliminaryFrameInfo, Received};
+pub use line::LINE_CAPACITY;
 pub use reply::{Action, Answer, Answers, Ifs, Refusal, Reply, Response, Spacing, StopListening, TaskDirection};
 pub use service::DriverService;
 pub use settings::{FcsLength, Pool, Settings, FRAME_LENGTH};

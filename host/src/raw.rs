@@ -1,10 +1,11 @@
 //! The exported functions on slices. All unsafe code of the crate is here and, as declarations, in `ffi`.
 #![allow(unsafe_code)]
-use crate::ffi::{self, INFO_LENGTH, REPLY_LENGTH, STATE_LENGTH};
+use crate::ffi::{self, INFO_LENGTH, LINE_LENGTH, REPLY_LENGTH, STATE_LENGTH};
 
-/// The three slices of a call. Exclusive borrows do not overlap, which is all that the library asks of them.
+/// The four slices of a call. Exclusive borrows do not overlap, which is all that the library asks of them.
 pub(crate) struct Slices<'a> {
     pub(crate) state: &'a mut [u8; STATE_LENGTH],
+    pub(crate) line: &'a mut [u8; LINE_LENGTH],
     pub(crate) reply: &'a mut [u8; REPLY_LENGTH],
     pub(crate) pool: &'a mut [u8],
 }
@@ -13,13 +14,14 @@ macro_rules! on_slices {
     ($($name:ident($($number:ident: $type:ty),*) = $function:ident;)*) => {$(
         #[allow(clippy::too_many_arguments)]
         pub(crate) fn $name($($number: $type,)* slices: Slices<'_>) -> u8 {
-            let Slices { state, reply, pool } = slices;
-            // SAFETY: each pointer comes from an exclusive borrow of as many bytes as the length beside it says; the three
+            let Slices { state, line, reply, pool } = slices;
+            // SAFETY: each pointer comes from an exclusive borrow of as many bytes as the length beside it says; the four
             // borrows live until the function returns, and it keeps no pointer. Every number is answered.
             unsafe {
                 ffi::$function(
                     $($number,)*
-                    state.as_mut_ptr(), state.len(), reply.as_mut_ptr(), reply.len(), pool.as_mut_ptr(), pool.len(),
+                    state.as_mut_ptr(), state.len(), line.as_mut_ptr(), line.len(),
+                    reply.as_mut_ptr(), reply.len(), pool.as_mut_ptr(), pool.len(),
                 )
             }
         }
@@ -31,7 +33,9 @@ on_slices! {
         count: u8, headroom: u8, tailroom: u8, fcs_length: u8, hardware_addr: u64, pan_id: u16, implicit_broadcast: u8,
         ack_buffer: u8, spare_buffer: u8
     ) = widosha_start;
-    request(token: u32, direction: u8, start: u8, time: u64, buffer: u8, length: u16, cca: u8) = widosha_request;
+    arrive(token: u32, direction: u8, start: u8, time: u64, buffer: u8, length: u16, cca: u8) = widosha_arrive;
+    withdraw(token: u32) = widosha_withdraw;
+    request() = widosha_request;
     none() = widosha_none;
     frame_start() = widosha_frame_start;
     outbound_seen(start: u8, time: u64, cca: u8) = widosha_outbound_seen;

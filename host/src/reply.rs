@@ -25,7 +25,7 @@ pub enum Spacing {
 /// Which requests an ask takes.
 #[derive(Clone, Copy, Debug, PartialEq, Eq)]
 pub enum TaskDirection {
-    /// Any; none may be waiting, which is answered by None.
+    /// Any that the wait allows; if none such waits, None is the call to make.
     Any,
     /// The outbound request that was seen.
     Outbound,
@@ -47,9 +47,11 @@ pub enum StopListening {
     },
 }
 
-/// What the radio or the queue is to do.
+/// What the radio or the host is to do.
 #[derive(Clone, Copy, Debug, PartialEq, Eq)]
 pub enum Action {
+    /// Nothing new: a request has arrived in the line or was withdrawn, and what was to be done before still is.
+    Nothing,
     /// Wait for a request.
     ReceiveRequest,
     /// Ask whether a request waits.
@@ -180,20 +182,25 @@ pub enum Refusal {
     Rooms,
     /// 4: the two own buffers are equal, or one is not there.
     OwnBuffers,
-    /// 5: the call or its outcome does not fit the wait.
+    /// 5: the call or its outcome does not fit the wait, or the requests that wait.
     Unfit,
-    /// 6: an unanswered request has this token.
+    /// 6: an unanswered request that has left the line has this token.
     TokenHeld,
-    /// 7: the buffer is not there or is held.
+    /// 7: the buffer is not there or is held, be it by a request that waits.
     BufferHeld,
     /// 8: the Tx length is below 3, or above 127 less the checksum.
     TxLength,
-    /// 9: the direction or the start is not allowed in this wait.
+    /// 9: no request waits whose direction and start are allowed in this wait.
     NotAllowed,
     /// 10: the received length is 0, or it or the arrived bytes are above 127 less the checksum.
     ReceivedLength,
     /// 11: the latest start of the ACK exceeds 64 bits.
     EntryTooLate,
+    /// 12: four requests wait.
+    LineFull,
+    /// 13: of an arrival, the token waits; of a withdrawal, it does not, or it is that of the Tx that OutboundSeen named, whose stop
+    /// or ask is still open.
+    TokenWaits,
     /// 14: the frame whose checksum is to be checked has, with its checksum, under 3 or over 127 bytes. From `check_fcs` alone.
     FrameLength,
     /// The library and this crate do not belong together: it returned this number, or with 0 a reply, that docs/LAYOUTS.md does
@@ -216,6 +223,8 @@ impl Refusal {
             Refusal::NotAllowed => 9,
             Refusal::ReceivedLength => 10,
             Refusal::EntryTooLate => 11,
+            Refusal::LineFull => 12,
+            Refusal::TokenWaits => 13,
             Refusal::FrameLength => 14,
             Refusal::Unknown(number) => number,
         }
@@ -236,6 +245,8 @@ impl Refusal {
             9 => Refusal::NotAllowed,
             10 => Refusal::ReceivedLength,
             11 => Refusal::EntryTooLate,
+            12 => Refusal::LineFull,
+            13 => Refusal::TokenWaits,
             14 => Refusal::FrameLength,
             _ => Refusal::Unknown(number),
         })
@@ -255,7 +266,13 @@ const ACTION_LENGTH: usize = 12;
 const ANSWER_LENGTH: usize = 18;
 
 impl Reply {
-    /// None if the bytes are not those of an accepted call's reply.
+    /// The reply of an accepted call on the line. None if the bytes are not all 0.
+    pub(crate) fn decode_on_line(reply: &[u8; REPLY_LENGTH]) -> Option<Self> {
+        let (action, answers) = (Action::Nothing, Answers::None);
+        (*reply == [0; REPLY_LENGTH]).then_some(Self { action, answers })
+    }
+
+    /// The reply of any other accepted call. None if the bytes are not those of such a one.
     pub(crate) fn decode(reply: &[u8; REPLY_LENGTH]) -> Option<Self> {
         let (action, rest) = reply.split_first_chunk::<ACTION_LENGTH>()?;
         let (first, rest) = rest.split_first_chunk::<ANSWER_LENGTH>()?;
@@ -360,8 +377,10 @@ mod tests {
         for number in 1..=255 {
             assert_eq!(Refusal::of(number).map(Refusal::number), Some(number));
         }
+        assert_eq!(Refusal::of(12), Some(Refusal::LineFull));
+        assert_eq!(Refusal::of(13), Some(Refusal::TokenWaits));
         assert_eq!(Refusal::of(14), Some(Refusal::FrameLength));
-        for number in [12, 13, 15, 255] {
+        for number in [15, 16, 255] {
             assert_eq!(Refusal::of(number), Some(Refusal::Unknown(number)));
         }
     }
@@ -370,7 +389,7 @@ mod tests {
     fn actions_are_those_of_the_layouts() {
         let at: &[u8] = &[8, 7, 6, 5, 4, 3, 2, 1];
         let time = 0x0102_0304_0506_0708;
-        assert_eq!(action(&[]), None);
+        assert_eq!(action(&[]), None, "only on the line");
         assert_eq!(action(&[(0, &[12])]), None);
         assert_eq!(action(&[(0, &[1])]), Some(Action::ReceiveRequest));
         assert_eq!(action(&[(0, &[2])]), Some(Action::TryReceiveRequest(TaskDirection::Any)));
@@ -399,6 +418,18 @@ mod tests {
         assert_eq!(action(&[(0, &[10, 1, 0, 0b01010])]), Some(rx));
         assert_eq!(action(&[(0, &[11, 0, 0, 2])]), Some(Action::Off { rollback: true }));
         assert_eq!(action(&[(0, &[11])]), Some(Action::Off { rollback: false }));
+    }
+
+    #[test]
+    fn replies_on_the_line_are_all_zero() {
+        let nothing = Reply {
+            action: Action::Nothing,
+            answers: Answers::None,
+        };
+        assert_eq!(Reply::decode_on_line(&with(&[])), Some(nothing));
+        for place in 0..REPLY_LENGTH {
+            assert_eq!(Reply::decode_on_line(&with(&[(place, &[1])])), None, "byte {place}");
+        }
     }
 
     #[test]

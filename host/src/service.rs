@@ -1,28 +1,33 @@
-//! The driver service: the state and the pool with one method for each call.
+//! The driver service: the state, the waiting line and the pool, with one method for each call.
 use crate::call::{Call, Cause, Request, RxResult, StopResult, TaskResult, Timestamp};
-use crate::ffi::{REPLY_LENGTH, STATE_LENGTH};
+use crate::ffi::{LINE_LENGTH, REPLY_LENGTH, STATE_LENGTH};
 use crate::info::Received;
+use crate::line;
 use crate::raw::{self, Slices};
 use crate::reply::{Answer, Refusal, Reply, Response};
 use crate::settings::{Pool, Settings, FRAME_LENGTH};
 use crate::wait::Wait;
 
-/// One driver service with its pool. Nobody else can write its state, so every state it is in follows from start and accepted calls.
+/// One driver service with its waiting line and its pool. Nobody else can write its state or its line, so every state and line it
+/// has follows from start and accepted calls.
 ///
 /// Every method for a call gives the reply of the accepted call, or why it was refused; a refused call changes nothing.
 #[derive(Debug)]
 pub struct DriverService<const N: usize> {
     settings: Settings,
     state: [u8; STATE_LENGTH],
+    line: [u8; LINE_LENGTH],
     pool: Pool<N>,
 }
 
 impl<const N: usize> DriverService<N> {
-    /// A service with these settings, and its first action. It writes 02 10 00 into the ACK buffer's frame and no other byte.
+    /// A service with these settings and an empty line, and its first action. It writes 02 10 00 into the ACK buffer's frame and no
+    /// other byte of the pool.
     pub fn start(settings: Settings, pool: Pool<N>) -> Result<(Self, Reply), Refusal> {
         let mut service = Self {
             settings,
             state: [0; STATE_LENGTH],
+            line: [0; LINE_LENGTH],
             pool,
         };
         let reply = service.call(|slices| {
@@ -42,10 +47,12 @@ impl<const N: usize> DriverService<N> {
         Ok((service, reply))
     }
 
-    /// Any of the nine calls.
+    /// Any of the eleven calls.
     pub fn step(&mut self, call: Call) -> Result<Reply, Refusal> {
         match call {
-            Call::Request(request) => self.request(request),
+            Call::Arrive(request) => self.arrive(request),
+            Call::Withdraw { token } => self.withdraw(token),
+            Call::Request => self.request(),
             Call::None => self.none(),
             Call::FrameStart => self.frame_start(),
             Call::OutboundSeen { start, cca } => self.outbound_seen(start, cca),
@@ -57,14 +64,31 @@ impl<const N: usize> DriverService<N> {
         }
     }
 
-    /// A request of the host, when one is waited or asked for.
-    pub fn request(&mut self, request: Request) -> Result<Reply, Refusal> {
+    /// A request of the host arrives in the waiting line, behind those that wait. Four can wait.
+    ///
+    /// This fits every wait and changes the line alone: the reply has no action (`Action::Nothing`) and no answer. The request leaves
+    /// the line by `request`; what its frame is, and whether it wants an acknowledgement, is read from the pool then.
+    pub fn arrive(&mut self, request: Request) -> Result<Reply, Refusal> {
         let (direction, length, cca) = request.task.numbers();
         let (start, time) = request.start.numbers();
-        self.call(|slices| raw::request(request.token, direction, start, time, request.buffer, length, cca, slices))
+        self.call_on_line(|slices| raw::arrive(request.token, direction, start, time, request.buffer, length, cca, slices))
     }
 
-    /// No request waits.
+    /// The waiting request with this token leaves the line. It is not answered, and its buffer is the host's again.
+    ///
+    /// This fits every wait, and its reply is as that of `arrive`. A request that has left the line cannot be withdrawn, nor the Tx
+    /// that `outbound_seen` named while its stop or its ask is open (13).
+    pub fn withdraw(&mut self, token: u32) -> Result<Reply, Refusal> {
+        self.call_on_line(|slices| raw::withdraw(token, slices))
+    }
+
+    /// Where a request is waited or asked for: the earliest arrival whose direction and start the wait allows is taken from the line.
+    /// If none waits that it allows, this is refused by 9; an ask of any direction then takes `none`.
+    pub fn request(&mut self) -> Result<Reply, Refusal> {
+        self.call(raw::request)
+    }
+
+    /// No request waits that the wait allows. If one does, this is refused by 5.
     pub fn none(&mut self) -> Result<Reply, Refusal> {
         self.call(raw::none)
     }
@@ -74,7 +98,8 @@ impl<const N: usize> DriverService<N> {
         self.call(raw::frame_start)
     }
 
-    /// An outbound request waits while the radio listens.
+    /// The earliest outbound request of the line is seen while the radio listens. With another start or flag than its own, or if none
+    /// waits, this is refused by 5.
     pub fn outbound_seen(&mut self, start: Timestamp, cca: bool) -> Result<Reply, Refusal> {
         let (start, time) = start.numbers();
         self.call(|slices| raw::outbound_seen(start, time, u8::from(cca), slices))
@@ -162,6 +187,16 @@ impl<const N: usize> DriverService<N> {
         &self.state
     }
 
+    /// The line's bytes.
+    pub fn line(&self) -> &[u8; LINE_LENGTH] {
+        &self.line
+    }
+
+    /// The requests that wait, in the order of their arrival.
+    pub fn waiting(&self) -> impl Iterator<Item = Request> + '_ {
+        line::waiting(&self.line)
+    }
+
     /// The pool.
     pub fn pool(&self) -> &Pool<N> {
         &self.pool
@@ -173,14 +208,27 @@ impl<const N: usize> DriverService<N> {
     }
 
     fn call(&mut self, function: impl FnOnce(Slices<'_>) -> u8) -> Result<Reply, Refusal> {
+        self.decoded(function, Reply::decode)
+    }
+
+    fn call_on_line(&mut self, function: impl FnOnce(Slices<'_>) -> u8) -> Result<Reply, Refusal> {
+        self.decoded(function, Reply::decode_on_line)
+    }
+
+    fn decoded(
+        &mut self,
+        function: impl FnOnce(Slices<'_>) -> u8,
+        decode: fn(&[u8; REPLY_LENGTH]) -> Option<Reply>,
+    ) -> Result<Reply, Refusal> {
         let mut reply = [0; REPLY_LENGTH];
         let number = function(Slices {
             state: &mut self.state,
+            line: &mut self.line,
             reply: &mut reply,
             pool: self.pool.bytes_mut(),
         });
         match Refusal::of(number) {
-            None => Reply::decode(&reply).ok_or(Refusal::Unknown(number)),
+            None => decode(&reply).ok_or(Refusal::Unknown(number)),
             Some(refusal) => Err(refusal),
         }
     }
@@ -228,6 +276,12 @@ mod tests {
             buffer,
             task,
         }
+    }
+
+    /// A request that arrives in an empty line and leaves it at once.
+    fn taken<const N: usize>(service: &mut DriverService<N>, request: Request) -> Result<Reply, Refusal> {
+        service.step(Call::Arrive(request))?;
+        service.step(Call::Request)
     }
 
     fn answer(token: u32, buffer: u8, response: Response) -> Answers {
@@ -293,7 +347,7 @@ mod tests {
     fn request_and_fallback_pass_their_numbers_on() {
         let mut service = started();
         let at = Timestamp::Scheduled(0x0102_0304_0506_0708);
-        let asked = service.step(Call::Request(tx(0xA1B2_C3D4, at, 2, 12, true)));
+        let asked = taken(&mut service, tx(0xA1B2_C3D4, at, 2, 12, true));
         let action = Action::Tx {
             buffer: 2,
             length: 12,
@@ -310,9 +364,74 @@ mod tests {
             idle.map(|reply| reply.answers),
             Ok(answer(0xA1B2_C3D4, 2, Response::Error(cause)))
         );
-        assert_eq!(service.request(tx(1, at, 2, 2, false)), Err(Refusal::TxLength));
-        assert_eq!(service.request(tx(1, at, 3, 12, false)), Err(Refusal::BufferHeld));
+        assert_eq!(service.arrive(tx(1, at, 2, 2, false)), Err(Refusal::TxLength));
+        assert_eq!(service.arrive(tx(1, at, 3, 12, false)), Err(Refusal::BufferHeld));
         assert_eq!(service.wait(), Some(Wait::Asking(Asked::Idle)));
+    }
+
+    const NOTHING: Reply = Reply {
+        action: Action::Nothing,
+        answers: Answers::None,
+    };
+
+    // Four wait, and a fifth does not. What is refused changes nothing; what is withdrawn leaves no gap, and its buffer is free.
+    #[test]
+    fn the_line_keeps_four_in_their_order() {
+        let (mut service, _) = DriverService::start(SETTINGS, Pool::<8>::new()).expect("accepted");
+        assert_eq!((service.waiting().count(), service.line()), (0, &[0; 96]));
+        let (at, best_effort) = (Timestamp::Scheduled(0x0102_0304_0506_0708), Timestamp::BestEffort);
+        let four = [
+            tx(0xA1B2_C3D4, at, 1, 12, true),
+            rx(2, 2),
+            tx(3, best_effort, 4, 123, false),
+            rx(4, 5),
+        ];
+        for request in four {
+            assert_eq!(service.step(Call::Arrive(request)), Ok(NOTHING));
+        }
+        assert!(service.waiting().eq(four));
+        let first = [
+            1, 1, 1, 1, 0xD4, 0xC3, 0xB2, 0xA1, 8, 7, 6, 5, 4, 3, 2, 1, 12, 0, 0, 0, 0, 0, 0, 0,
+        ];
+        assert_eq!(service.line()[..24], first);
+        let before = (*service.state(), *service.line());
+        assert_eq!(service.arrive(rx(3, 4)), Err(Refusal::BufferHeld), "by one that waits");
+        assert_eq!(service.arrive(tx(3, at, 6, 124, true)), Err(Refusal::TxLength));
+        assert_eq!(service.arrive(rx(3, 6)), Err(Refusal::LineFull));
+        assert_eq!(service.withdraw(6), Err(Refusal::TokenWaits), "it does not");
+        assert_eq!((*service.state(), *service.line()), before);
+        assert_eq!(service.step(Call::Withdraw { token: 2 }), Ok(NOTHING));
+        assert!(service.waiting().eq([four[0], four[2], four[3]]));
+        assert_eq!(service.arrive(rx(3, 2)), Err(Refusal::TokenWaits));
+        assert_eq!(service.arrive(rx(2, 2)), Ok(NOTHING));
+        assert!(service.waiting().eq([four[0], four[2], four[3], four[1]]));
+        let action = service.request().map(|reply| reply.action);
+        assert!(
+            matches!(action, Ok(Action::Tx { buffer: 1, start, .. }) if start == at),
+            "{action:?}"
+        );
+        assert!(service.waiting().eq([four[2], four[3], four[1]]));
+    }
+
+    // While a frame that wants no ACK is sent, nothing with a time may follow: a later request without one passes it.
+    #[test]
+    fn what_the_wait_allows_passes_what_it_does_not() {
+        let (mut service, _) = DriverService::start(SETTINGS, Pool::<8>::new()).expect("accepted");
+        let timed = tx(2, Timestamp::Scheduled(900), 1, 12, true);
+        service.put_frame(4, &[0x41, 0x88, 7]);
+        assert!(taken(&mut service, tx(1, Timestamp::BestEffort, 4, 12, true)).is_ok());
+        assert!(service.arrive(timed).is_ok());
+        assert_eq!(service.request(), Err(Refusal::Unfit), "nothing is asked for");
+        let asked = service.step(off_at(1)).map(|reply| reply.action);
+        assert_eq!(asked, Ok(Action::TryReceiveRequest(TaskDirection::Any)));
+        assert_eq!(service.request(), Err(Refusal::NotAllowed));
+        assert!(service.arrive(rx(3, 2)).is_ok());
+        assert_eq!(service.none(), Err(Refusal::Unfit), "one waits that may follow");
+        let passing = service.request().map(|reply| reply.action);
+        assert!(matches!(passing, Ok(Action::Rx { buffer: 2, .. })), "{passing:?}");
+        assert!(service.waiting().eq([timed]));
+        assert_eq!(service.withdraw(3), Err(Refusal::TokenWaits), "it has left");
+        assert_eq!(service.arrive(rx(3, 5)), Err(Refusal::TokenHeld));
     }
 
     // Sent with an ACK wait that fails once and ends; the answer has the time sent, the stop the time of entry.
@@ -320,7 +439,7 @@ mod tests {
     fn entered_and_stopped_pass_their_numbers_on() {
         let mut service = started();
         service.put_frame(2, &[0x61, 0x88, 7]);
-        assert!(service.request(tx(5, Timestamp::BestEffort, 2, 12, false)).is_ok());
+        assert!(taken(&mut service, tx(5, Timestamp::BestEffort, 2, 12, false)).is_ok());
         assert!(service.step(off_at(100)).is_ok());
         assert_eq!(service.wait(), Some(Wait::Entering(Transition::AckWait)));
         let result = TaskResult::Sent { time: 4_000 };
@@ -344,12 +463,15 @@ mod tests {
     #[test]
     fn listening_passes_its_numbers_on() {
         let mut service = started();
-        assert!(service.request(rx(9, 1)).is_ok());
+        assert!(taken(&mut service, rx(9, 1)).is_ok());
         assert_eq!(service.step(off_at(1)).map(|reply| reply.action), Ok(Action::Listen));
         let (start, cca) = (Timestamp::Scheduled(900), true);
+        assert!(service.arrive(tx(8, start, 2, 12, cca)).is_ok());
         let stop = service.step(Call::OutboundSeen { start, cca }).map(|reply| reply.action);
         assert_eq!(stop, Ok(Action::Stop(StopListening::Before { start: 900, cca })));
+        assert_eq!(service.withdraw(8), Err(Refusal::TokenWaits), "its stop is open");
         assert!(service.stopped(StopResult::Failed).is_ok());
+        assert!(service.step(Call::Withdraw { token: 8 }).is_ok());
         assert_eq!(
             service.step(Call::FrameStart).map(|r| r.action),
             Ok(Action::Stop(StopListening::Now))
@@ -389,7 +511,7 @@ mod tests {
     fn receiving() -> DriverService<4> {
         let mut service = started();
         service.put_frame(1, &[0x41, 0x88, 7, 0x34, 0x12, 0x77, 0x66, 1, 0]);
-        service.request(rx(9, 1)).expect("a request fits");
+        taken(&mut service, rx(9, 1)).expect("a request fits");
         service.step(off_at(1)).expect("the radio listens");
         service.frame_start().expect("a frame starts");
         service.stopped(StopResult::FrameStarted).expect("it is received");
@@ -418,9 +540,7 @@ mod tests {
             assert_eq!(entered, Ok(Answers::One(received)));
 
             let mut service = receiving();
-            service
-                .request(tx(10, Timestamp::Scheduled(77), 2, 12, true))
-                .expect("a Tx of any start");
+            taken(&mut service, tx(10, Timestamp::Scheduled(77), 2, 12, true)).expect("a Tx of any start");
             let cause = Cause::Scheduling(Timestamp::Scheduled(76));
             let error = Answer {
                 token: 10,

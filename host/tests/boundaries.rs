@@ -1,4 +1,5 @@
-//! Inputs around each boundary of document 01, its marked rows, its departures, and every value of every code.
+//! Inputs around each boundary of document 01, its marked rows, its departures, and every value of every code. A request arrives in
+//! the waiting line and is taken by a Request (document 02, E1); what E1 says of the line stands in line.rs.
 mod common;
 mod model;
 
@@ -7,10 +8,9 @@ use common::random::Rng;
 use common::reached::{collect, every_wait, Reached};
 use common::run::Run;
 use common::scenes::*;
-use common::{choose, divisor, seed, stride};
-use model::bytes::{codes, read_state};
-use model::calls::{Raw, RawStart};
-use model::engine::State;
+use common::{choose, choose::Now, divisor, seed, stride};
+use model::bytes::codes;
+use model::calls::{Raw, RawStart, Request, Start};
 use model::header::Control;
 
 /// "*02 00 07 Sent, *02 10 07 Sent, *12 00 07 Nack, *02 20 07 Nack, *02 00 08 Nack, a fourth byte Nack."
@@ -42,17 +42,17 @@ fn acknowledgement_rows() {
 fn acknowledged(bytes: &[u8], length: u16, code: u8) {
     let after = entered_after_frame(length);
     let fallback = Raw::fallback(2, length, 55, 2, 0, 203);
-    for outcome in [
-        [Raw::None, after],
-        [rx(71, 0), after],
-        [tx(71, 0, 9), after],
-        [tx(71, 0, 9), fallback],
+    for (next, last) in [
+        (Raw::None, after),
+        (rx(71, 0), after),
+        (tx(71, 0, 9), after),
+        (tx(71, 0, 9), fallback),
     ] {
         let mut run = receiving_ack(2, 20);
         put(&mut run, SPARE, &[0xff; 4]);
-        calls(&mut run, &outcome[..1]);
+        calls(&mut run, &met_by(next));
         put(&mut run, SPARE, bytes);
-        let reply = calls(&mut run, &outcome[1..]);
+        let reply = calls(&mut run, &[last]);
         let mut expected = vec![code, 70, 0, 0, 0, 2, 0];
         expected.extend(900u64.to_le_bytes());
         expected.extend([0; 3]);
@@ -60,14 +60,17 @@ fn acknowledged(bytes: &[u8], length: u16, code: u8) {
     }
 }
 
-/// "the number noted at acceptance": neither the number of later, nor that of the buffer of another frame.
+/// "the number noted at acceptance": neither the number of later, nor that of the buffer of another frame. E1: "Acceptance, where it
+/// says when a Tx frame's bytes are noted, is leaving", so it is not the number of earlier either.
 #[test]
-fn number_is_noted_at_acceptance() {
-    for (noted, later, acknowledged, code) in [(7, 8, 7, 1), (7, 8, 8, 2), (0, 255, 0, 1), (255, 0, 255, 1)] {
+fn number_is_noted_at_leaving() {
+    for (noted, other, acknowledged, code) in [(7, 8, 7, 1), (7, 8, 8, 2), (0, 255, 0, 1), (255, 0, 255, 1)] {
         let mut run = open(settings(2));
-        put(&mut run, 2, &[0x61, 0x88, noted]);
+        put(&mut run, 2, &[0x61, 0x88, other]);
         calls(&mut run, &[tx(70, 2, 20)]);
-        put(&mut run, 2, &[0x00, 0x00, later]);
+        put(&mut run, 2, &[0x61, 0x88, noted]);
+        calls(&mut run, &[Raw::Request]);
+        put(&mut run, 2, &[0x00, 0x00, other]);
         calls(
             &mut run,
             &[entered_from_off(), entered_after_sending(900, 0), frame_started(), Raw::None],
@@ -102,7 +105,7 @@ fn measured_entry() {
     for (entry, number) in rows {
         let mut run = open(settings(4));
         put(&mut run, 2, &[0x61, 0x88, 7]);
-        calls(&mut run, &[tx(70, 2, 20), entered_from_off()]);
+        calls(&mut run, &[tx(70, 2, 20), Raw::Request, entered_from_off()]);
         assert_eq!(call(&mut run, entered_after_sending(3, entry)), number, "entry {entry}");
         if number == 0 {
             assert_eq!(run.pair.reply()[0], 6);
@@ -115,7 +118,7 @@ fn measured_entry() {
     // No other measured entry is refused.
     let mut run = open(settings(4));
     put(&mut run, 2, &[0x61, 0x88, 7]);
-    calls(&mut run, &[tx(70, 2, 20), Raw::entered(0, 0, 0, u64::MAX, 207)]);
+    calls(&mut run, &[tx(70, 2, 20), Raw::Request, Raw::entered(0, 0, 0, u64::MAX, 207)]);
 }
 
 /// "Tx length 2 is 8."
@@ -129,7 +132,7 @@ fn tx_lengths() {
             let expected = if (3..=longest).contains(&length) { 0 } else { 8 };
             assert_eq!(call(&mut run, tx(1, 2, length)), expected, "F {fcs}, length {length}");
             if expected == 0 {
-                assert_eq!(u16::from(run.pair.reply()[2]), length);
+                assert_eq!(u16::from(calls(&mut run, &[Raw::Request])[2]), length);
             }
         }
     }
@@ -184,7 +187,7 @@ fn starts_with_own_buffers(start: &RawStart, pool: usize) -> usize {
             spare_buffer,
             ..*start
         };
-        let mut pair = Pair::new(&[0x99; 64], &[0x99; 48], &vec![0x99; pool]);
+        let mut pair = Pair::new(&[0x99; 64], &[0x99; 96], &[0x99; 48], &vec![0x99; pool]);
         let returned = pair
             .start(&raw)
             .unwrap_or_else(|wrong| panic!("{wrong}\n{raw:?}, pool {pool}"));
@@ -201,7 +204,7 @@ fn starts_with_own_buffers(start: &RawStart, pool: usize) -> usize {
     own.len()
 }
 
-/// "Start writes 02 10 00 into the ACK buffer's frame and no other byte."
+/// "Start writes 02 10 00 into the ACK buffer's frame and no other byte." E1, of the line: "Start empties it."
 #[test]
 fn start_writes_three_bytes() {
     for headroom in 0..=8 {
@@ -214,8 +217,9 @@ fn start_writes_three_bytes() {
                 ..settings(2)
             };
             let mut pool = vec![0x99; 144 * usize::from(count)];
-            let mut pair = Pair::new(&[0x99; 64], &[0x99; 48], &pool);
+            let mut pair = Pair::new(&[0x99; 64], &[0x99; 96], &[0x99; 48], &pool);
             assert_eq!(pair.start(&start), Ok(0));
+            assert_eq!(pair.line(), [0; 96]);
             let at = 144 * usize::from(ack_buffer) + usize::from(headroom);
             pool[at..at + 3].copy_from_slice(&[0x02, 0x10, 0x00]);
             assert_eq!(pair.pool(), pool);
@@ -227,17 +231,17 @@ fn start_writes_three_bytes() {
 }
 
 /// For every reached state, the calls that `make` gives for it, each on the state as it was.
-fn on_every_state(seed: u64, of_each: usize, make: impl Fn(&State, &mut Rng) -> Vec<Raw>) -> usize {
+fn on_every_state(seed: u64, of_each: usize, make: impl Fn(Now, &mut Rng) -> Vec<Raw>) -> usize {
     let mut rng = Rng::new(seed);
     let mut made = 0;
-    for Reached { state, pool } in collect(seed, of_each) {
-        let read = read_state(&state).expect("a reached state");
-        let mut pair = Pair::on(&state, &pool);
-        for raw in make(&read, &mut rng).into_iter().step_by(stride()) {
+    for from in collect(seed, of_each) {
+        let Reached { state, line, pool } = &from;
+        let mut pair = Pair::on(state, line, pool);
+        for raw in make(from.now(&from.read()), &mut rng).into_iter().step_by(stride()) {
             made += 1;
             if pair.must(&raw) == 0 {
-                pair.set_state(&state);
-                pair.poke(0, &pool);
+                pair.set(state, line);
+                pair.poke(0, pool);
             }
         }
     }
@@ -293,13 +297,21 @@ fn received_length_limits() {
     }
 }
 
+/// The time of the line's earliest Tx; 0 if it has none, or if none waits.
+fn time_of_earliest_tx(now: Now) -> u64 {
+    match now.line.earliest_tx().map(|request| request.start()) {
+        Some(Start::At(time)) => time,
+        _ => 0,
+    }
+}
+
 /// Every value of every code argument, in every wait.
 #[test]
 fn every_code_value() {
-    let made = on_every_state(seed(21), 2, |state, rng| {
+    let made = on_every_state(seed(21), 2, |now, rng| {
         let mut raws = Vec::new();
         for code in 0..=255 {
-            let Raw::Request {
+            let Raw::Arrive {
                 token,
                 direction,
                 start,
@@ -307,19 +319,21 @@ fn every_code_value() {
                 buffer,
                 length,
                 cca,
-            } = choose::request(rng, state)
+            } = choose::arrive(rng, now)
             else {
-                unreachable!("a request")
+                unreachable!("an arrival")
             };
             let (d, s, c) = (direction & 1, start & 1, cca & 1);
             let quality = choose::quality(rng);
-            raws.push(Raw::request(token, code, s, time, buffer, length, c));
-            raws.push(Raw::request(token, d, code, time, buffer, length, c));
-            raws.push(Raw::request(token, d, s, time, buffer, length, code));
-            raws.push(Raw::request(token, 1, 0, time, buffer, 0, code));
-            raws.push(Raw::outbound_seen(code, time, c));
-            raws.push(Raw::outbound_seen(0, time, code));
-            raws.push(Raw::outbound_seen(1, time, code));
+            raws.push(Raw::arrive(token, code, s, time, buffer, length, c));
+            raws.push(Raw::arrive(token, d, code, time, buffer, length, c));
+            raws.push(Raw::arrive(token, d, s, time, buffer, length, code));
+            raws.push(Raw::arrive(token, 1, 0, time, buffer, 0, code));
+            for time in [time, time_of_earliest_tx(now)] {
+                raws.push(Raw::outbound_seen(code, time, c));
+                raws.push(Raw::outbound_seen(0, time, code));
+                raws.push(Raw::outbound_seen(1, time, code));
+            }
             raws.push(Raw::stopped(code, 3, time, quality));
             raws.push(Raw::entered(code, 3, time, 9, quality));
             for result in 0..5 {
@@ -338,23 +352,25 @@ fn every_code_value() {
 #[test]
 fn codes_together() {
     let values = [0, 1, 2, 3, 4, 5, 255];
-    let made = on_every_state(seed(22), 1, |state, rng| {
+    let made = on_every_state(seed(22), 1, |now, rng| {
         let mut raws = Vec::new();
         for (first, second) in values.into_iter().flat_map(|first| values.map(|second| (first, second))) {
             for cca in values {
-                let Raw::Request {
+                let Raw::Arrive {
                     token,
                     time,
                     buffer,
                     length,
                     ..
-                } = choose::request(rng, state)
+                } = choose::arrive(rng, now)
                 else {
                     continue;
                 };
-                raws.push(Raw::request(token, first, second, time, buffer, length, cca));
+                raws.push(Raw::arrive(token, first, second, time, buffer, length, cca));
             }
-            raws.push(Raw::outbound_seen(first, 4, second));
+            for time in [4, time_of_earliest_tx(now)] {
+                raws.push(Raw::outbound_seen(first, time, second));
+            }
             for length in [0, 3, 200] {
                 raws.push(Raw::fallback(first, length, 4, second, 8, choose::quality(rng)));
             }
@@ -367,14 +383,15 @@ fn codes_together() {
 /// Tokens and buffers in every wait: those held, those one bit beside them, the smallest and largest.
 #[test]
 fn tokens_and_buffers() {
-    let made = on_every_state(seed(23), 3, |state, _| {
+    let made = on_every_state(seed(23), 3, |now, _| {
         let mut tokens = vec![0, 1, u32::MAX, u32::MAX - 1, 0x8000_0000];
-        for (token, _) in state.wait.open().into_iter().flatten() {
+        let left = now.state.wait.open().into_iter().flatten().map(|open| open.0);
+        for token in left.chain(now.line.0.iter().map(Request::token)) {
             tokens.push(token);
             tokens.extend((0..32).map(|bit| token ^ (1 << bit)));
         }
-        let n = state.settings.count;
-        let mut raws = Vec::new();
+        let n = now.state.settings.count;
+        let mut raws: Vec<Raw> = tokens.iter().map(|token| Raw::withdraw(*token)).collect();
         for token in tokens {
             for buffer in (0..n).chain([n, n + 1, 127, 128, 254, 255]) {
                 raws.push(tx(token, buffer, 9));
@@ -387,69 +404,18 @@ fn tokens_and_buffers() {
     println!("boundaries: {made} calls with tokens and buffers");
 }
 
-/// Every set of faults of a request in every wait: the refusals 5 to 9 in checking order.
-#[test]
-fn refusal_order_of_requests() {
-    let made = on_every_state(seed(24), 3, |state, _| {
-        let open = state.wait.open();
-        let held = open.iter().flatten().next().map_or(state.settings.spare, |open| open.1);
-        let used = |b: &u8| *b == state.settings.ack || *b == state.settings.spare || open.iter().flatten().any(|o| o.1 == *b);
-        let free = (0..state.settings.count).find(|b| !used(b)).unwrap_or(0);
-        let mut raws = Vec::new();
-        for faults in 0..128 {
-            let fault = |bit: u32| faults >> bit & 1 == 1;
-            raws.push(Raw::Request {
-                token: if fault(0) {
-                    open.iter().flatten().last().map_or(1, |open| open.0)
-                } else {
-                    0x7654_3210
-                },
-                direction: if fault(4) { 2 } else { u8::from(fault(3)) },
-                start: u8::from(fault(5)),
-                time: 99,
-                buffer: if fault(1) { held } else { free },
-                length: if fault(2) { 2 } else { 20 },
-                cca: if fault(6) { 2 } else { 1 },
-            });
-        }
-        raws
-    });
-    println!("boundaries: {made} requests with faults");
-}
-
-/// The same, said outright for one wait: after a frame was sent only best effort is taken.
-#[test]
-fn refusal_order_when_sending() {
-    for faults in 0..32 {
-        let fault = |bit: u32| faults >> bit & 1 == 1;
-        let mut run = open(settings(2));
-        put(&mut run, 2, &[0x41, 0x88, 7]);
-        calls(&mut run, &[tx(70, 2, 20), entered_from_off()]);
-        let raw = Raw::Request {
-            token: if fault(1) { 70 } else { 71 },
-            direction: 0,
-            start: u8::from(fault(4)),
-            time: 5,
-            buffer: if fault(2) { 2 } else { 0 },
-            length: if fault(3) { 126 } else { 125 },
-            cca: if fault(0) { 2 } else { 0 },
-        };
-        let expected = (0..5).find(|bit| fault(*bit)).map_or(0, |bit| bit as u8 + 5);
-        assert_eq!(call(&mut run, raw), expected, "{raw:?}");
-    }
-}
-
 /// "Length with checksum up to 18: short; 19 and over: long", and "length with checksum (any 16 bits)".
 #[test]
 fn spacing_after_receiving() {
     let mut run = reading_header(settings(2));
     put(&mut run, 2, &[0x41, 0x88, 1, 0xcd, 0xab, 0x88, 0x77, 0, 0]);
-    let (state, pool) = (run.pair.state().to_vec(), run.pair.pool().to_vec());
+    calls(&mut run, &[rx(10, 3)]);
+    let Reached { state, line, pool } = Reached::of(&run);
     for length in (0..=u16::MAX).step_by(stride()) {
-        let mut pair = Pair::on(&state, &pool);
+        let mut pair = Pair::on(&state, &line, &pool);
         assert_eq!(pair.must(&Raw::header(9, length)), 0);
         assert_eq!(pair.state()[36], if length <= 18 { 1 } else { 2 }, "length {length}");
-        assert_eq!(pair.must(&rx(10, 3)), 0);
+        assert_eq!(pair.must(&Raw::Request), 0);
         assert_eq!(pair.reply()[3], if length <= 18 { 2 << 3 } else { 3 << 3 }, "length {length}");
     }
 }
@@ -470,7 +436,7 @@ fn spacing_after_an_ack_turn() {
         assert_eq!(run.pair.pool()[144 + usize::from(HEADROOM)..][..3], [0x02, 0x10, 201]);
         let asked = calls(&mut run, &[entered_after_frame(20)]);
         assert_eq!((asked[0], asked[12], asked[17], asked[18]), (2, 6, 2, 20));
-        let reply = calls(&mut run, &[tx(11, 3, 50)]);
+        let reply = calls(&mut run, &[tx(11, 3, 50), Raw::Request]);
         assert_eq!(reply[..4], [9, 3, 50, spacing << 3], "length {length}");
     }
 }
@@ -483,15 +449,15 @@ fn spacing_after_sending() {
             let expected = if length + u16::from(fcs) <= 18 { 2 << 3 } else { 3 << 3 };
             let mut run = receiving_ack(fcs, length);
             assert_eq!(
-                calls(&mut run, &[rx(71, 0)])[..4],
+                calls(&mut run, &[rx(71, 0), Raw::Request])[..4],
                 [10, 0, 0, expected],
                 "F {fcs}, length {length}"
             );
             let mut run = open(settings(fcs));
             put(&mut run, 2, &[0x41, 0x88, 7]);
-            calls(&mut run, &[tx(70, 2, length), entered_from_off()]);
+            calls(&mut run, &[tx(70, 2, length), Raw::Request, entered_from_off()]);
             assert_eq!(
-                calls(&mut run, &[rx(71, 0)])[..4],
+                calls(&mut run, &[rx(71, 0), Raw::Request])[..4],
                 [10, 0, 0, expected],
                 "F {fcs}, length {length}"
             );
@@ -520,10 +486,14 @@ fn rearm_exchanges_buffers() {
     assert_eq!(call(&mut run, rx(9, 3)), 6, "the token is kept");
     let reply = calls(&mut run, &[Raw::None, entered_after_frame(38)]);
     assert_eq!(reply[12..19], [6, 9, 0, 0, 0, SPARE, 38]);
-    calls(
-        &mut run,
-        &[rx(10, SPARE), entered_from_off(), Raw::FrameStart, frame_started()],
-    );
+    let again = [
+        rx(10, SPARE),
+        Raw::Request,
+        entered_from_off(),
+        Raw::FrameStart,
+        frame_started(),
+    ];
+    calls(&mut run, &again);
     put(&mut run, SPARE, &[0x41, 0x88, 1, 0xcd, 0xab, 0x89, 0x77, 0, 0]);
     let again = calls(&mut run, &[Raw::header(9, 40)]);
     assert_eq!(again[..4], [10, 2, 0, 0]);
@@ -746,7 +716,7 @@ fn header_makes_of(row: &Row, length: u16) {
     let mut pool = unrequested.pair.pool().to_vec();
     pool[frame(2)] = control as u8;
     assert_eq!(run.pair.pool(), pool, "{why}");
-    let next = calls(&mut run, &[rx(10, 3)]);
+    let next = calls(&mut run, &[rx(10, 3), Raw::Request]);
     assert_eq!(next[..4], [10, 3, 0, (1 + spacing) << 3], "{why}, length {length}");
 }
 
@@ -762,7 +732,7 @@ fn sent_broadcasts_want_what_they_ask_for() {
     for (bytes, wanted) in frames {
         let mut run = open(settings(2));
         put(&mut run, 2, bytes);
-        let entered = calls(&mut run, &[tx(70, 2, 20), entered_from_off()]);
+        let entered = calls(&mut run, &[tx(70, 2, 20), Raw::Request, entered_from_off()]);
         let expected = if wanted { [10, SPARE, 0, 1 << 3] } else { [2, 0, 0, 0] };
         assert_eq!(entered[..4], expected, "{bytes:02x?}");
     }
@@ -773,13 +743,14 @@ fn sent_broadcasts_want_what_they_ask_for() {
 fn which_frames_want_an_acknowledgement() {
     let mut run = open(settings(2));
     put(&mut run, 2, &[0, 0, 0x6b]);
-    let (state, pool) = (run.pair.state().to_vec(), run.pair.pool().to_vec());
-    let mut pair = Pair::on(&state, &pool);
+    calls(&mut run, &[tx(1, 2, 9)]);
+    let Reached { state, line, pool } = Reached::of(&run);
+    let mut pair = Pair::on(&state, &line, &pool);
     let at = 2 * 144 + usize::from(HEADROOM);
     for control in (0..=u16::MAX).step_by(stride()) {
-        pair.set_state(&state);
+        pair.set(&state, &line);
         pair.poke(at, &control.to_le_bytes());
-        assert_eq!(pair.must(&tx(1, 2, 9)), 0);
+        assert_eq!(pair.must(&Raw::Request), 0);
         let suppressed = control & 0x3000 == 0x2000 && control & 0x0100 != 0;
         let wants = control & 0x0020 != 0 && !suppressed;
         let expected = if wants { [2, 0x6b] } else { [1, 0] };
@@ -880,7 +851,7 @@ fn every_arrived_count() {
             ..choose::settings(&mut rng)
         };
         let mut run = reading_header(start);
-        let settings = run.state().settings;
+        let settings = run.read.0.settings;
         let bytes = common::frames::header(&mut rng, &settings);
         put(&mut run, 2, &bytes);
         for arrived in 0..=26 {
@@ -901,8 +872,10 @@ fn outbound_seen() {
         (1, u64::MAX, 1),
     ] {
         let mut run = open(settings(2));
-        calls(&mut run, &[rx(9, 2), entered_from_off()]);
-        let reply = calls(&mut run, &[Raw::outbound_seen(start, time, cca)]);
+        calls(&mut run, &[rx(9, 2), Raw::Request, entered_from_off()]);
+        let outbound = Raw::arrive(11, 0, start, time, 3, 9, cca);
+        // The Rx, which arrived first, is not what is asked for.
+        let reply = calls(&mut run, &[rx(10, 5), outbound, Raw::outbound_seen(start, time, cca)]);
         let mut expected = [0; 48];
         expected[0] = if start == 0 { 5 } else { 7 };
         if start == 1 {
@@ -913,8 +886,7 @@ fn outbound_seen() {
         let asked = calls(&mut run, &[Raw::stopped(2, 40, 3, 208)]);
         assert_eq!(asked[0], 3);
         assert_eq!(call(&mut run, Raw::None), 5, "None does not fit");
-        assert_eq!(call(&mut run, rx(10, 3)), 9);
-        let reply = calls(&mut run, &[Raw::request(11, 0, start, time, 3, 9, cca)]);
+        let reply = calls(&mut run, &[Raw::Request]);
         assert_eq!(reply[..4], [9, 3, 9, cca | start << 2], "from off there is no spacing");
         assert_eq!(
             reply[12..30],
@@ -929,7 +901,7 @@ fn outbound_seen() {
 fn awaiting_an_acknowledgement() {
     let mut run = open(settings(2));
     put(&mut run, 2, &[0x61, 0x88, 7]);
-    let listen = calls(&mut run, &[tx(70, 2, 20), entered_from_off()]);
+    let listen = calls(&mut run, &[tx(70, 2, 20), Raw::Request, entered_from_off()]);
     assert_eq!(
         listen[..12],
         [10, SPARE, 0, 1 << 3, 0, 0, 0, 0, 0, 0, 0, 0],
@@ -940,11 +912,11 @@ fn awaiting_an_acknowledgement() {
     assert_eq!(again[..12], [5, 0, 0, 0, 0, 0, 0, 0, 0, 0, 0, 0]);
     assert_eq!(call(&mut run, failed), 5);
     assert_eq!(calls(&mut run, &[Raw::stopped(4, 0, 9, 210)])[0], 2);
-    let timed = Raw::request(71, 1, 1, 5, 0, 0, 0);
-    assert_eq!(call(&mut run, timed), 9);
+    calls(&mut run, &[Raw::arrive(72, 1, 1, 5, 3, 0, 0)]);
+    assert_eq!(call(&mut run, Raw::Request), 9, "a timed Rx is not allowed");
     let reply = calls(&mut run.clone(), &[Raw::None]);
     assert_eq!((reply[0], reply[12], reply[17], reply[19]), (1, 2, 2, 900u16 as u8));
-    let reply = calls(&mut run, &[rx(71, 0)]);
+    let reply = calls(&mut run, &[rx(71, 0), Raw::Request]);
     assert_eq!(reply[..4], [10, 0, 0, 0], "from off there is no spacing");
     assert_eq!((reply[12], reply[13], reply[17]), (2, 70, 2));
 }
@@ -953,10 +925,10 @@ fn awaiting_an_acknowledgement() {
 #[test]
 fn every_wait_is_reached() {
     let mut waits: Vec<[u8; 3]> = Vec::new();
-    for Reached { state, .. } in collect(seed(26), 1) {
-        let read = read_state(&state).expect("a reached state");
-        assert_eq!(codes(&read.wait), state[17..20]);
-        waits.push(codes(&read.wait));
+    for from in collect(seed(26), 1) {
+        let (state, _) = from.read();
+        assert_eq!(codes(&state.wait), from.state[17..20]);
+        waits.push(codes(&state.wait));
     }
     waits.sort_unstable();
     waits.dedup();

@@ -336,7 +336,8 @@ impl Hub {
             buffer,
             task,
         };
-        service.request(request).expect("a request fits");
+        service.arrive(request).expect("the line is empty");
+        service.request().expect("a request fits");
         service.entered(TaskResult::Off, 1).expect("the radio listens");
         Hub {
             service,

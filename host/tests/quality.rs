@@ -47,8 +47,8 @@ fn error(cause: u8, token: u8, buffer: u8) -> [u8; 18] {
 
 const NO_ANSWER: [u8; 18] = [0; 18];
 
-/// What follows when a reception is asked about: the call, and the last call, which is Entered or Fallback with a cause. The Tx
-/// with buffer 3 wants an ACK, that with buffer 5 wants none.
+/// What follows when a reception is asked about: None or the arrival that a Request takes, and the last call, which is Entered or
+/// Fallback with a cause. The Tx with buffer 3 wants an ACK, that with buffer 5 wants none.
 fn ways() -> Vec<(Raw, Option<u8>)> {
     let mut all: Vec<_> = [Raw::None, rx(10, 3), tx(10, 3, 9), tx(10, 5, 9)]
         .into_iter()
@@ -63,7 +63,7 @@ fn ways() -> Vec<(Raw, Option<u8>)> {
 /// The last call, by its result and quality, and the second answer that it gives.
 fn last(way: &(Raw, Option<u8>), result: u8, length: u16, quality: u8) -> (Raw, [u8; 18]) {
     match *way {
-        (Raw::Request { buffer, .. }, Some(cause)) => (
+        (Raw::Arrive { buffer, .. }, Some(cause)) => (
             Raw::fallback(result, length, TIME, cause, CAUSE_TIME, quality),
             error(cause, 10, buffer),
         ),
@@ -107,7 +107,8 @@ fn receive_answers() {
         let mut run = reading_header(settings(2));
         put(&mut run, 2, &TO_US);
         put_next(&mut run);
-        calls(&mut run, &[Raw::header(9, 30), way.0]);
+        calls(&mut run, &[Raw::header(9, 30)]);
+        calls(&mut run, &met_by(way.0));
         made += received_with_every_quality(&run, &way);
     }
     println!("quality: {made} receive answers, {} ways to one", 1 + ways().len());
@@ -130,7 +131,7 @@ fn awaited_acknowledgements() {
             let mut run = receiving_ack(2, 20);
             put_next(&mut run);
             put(&mut run, SPARE, &[0x02, 0x00, number]);
-            calls(&mut run, &[way.0]);
+            calls(&mut run, &met_by(way.0));
             for quality in 0..=255 {
                 let (raw, second) = last(&way, result, length, quality);
                 let reply = calls(&mut run.clone(), &[raw]);
@@ -153,7 +154,7 @@ fn ended(run: &Run, after: &[Raw], first: [u8; 18]) -> u64 {
                 let mut run = run.clone();
                 let stopped = calls(&mut run, &[Raw::stopped(outcome, length, TIME, quality)]);
                 assert_eq!(stopped[12..], [0; 36], "{outcome}, quality {quality}");
-                let reply = calls(&mut run, &[*raw]);
+                let reply = calls(&mut run, &met_by(*raw));
                 assert_eq!(reply[12..30], first, "{outcome}, quality {quality}, {raw:?}");
                 assert_eq!(reply[30..], NO_ANSWER, "{outcome}, quality {quality}, {raw:?}");
                 made += 1;
@@ -166,21 +167,21 @@ fn ended(run: &Run, after: &[Raw], first: [u8; 18]) -> u64 {
 #[test]
 fn windows() {
     let mut made = 0;
-    for start in [0, 1] {
+    for (start, buffer) in [(0, 3), (0, 5), (1, 3), (1, 5)] {
         let mut run = open(settings(2));
         put_next(&mut run);
-        calls(
-            &mut run,
-            &[rx(9, 2), entered_from_off(), Raw::outbound_seen(start, CAUSE_TIME, 1)],
-        );
-        made += ended(&run, &[tx(10, 3, 9), tx(10, 5, 9)], answer(7, 9, 2, 0, 0, 0));
+        let outbound = Raw::arrive(10, 0, start, CAUSE_TIME, buffer, 9, 1);
+        let seen = Raw::outbound_seen(start, CAUSE_TIME, 1);
+        calls(&mut run, &[rx(9, 2), Raw::Request, entered_from_off(), outbound, seen]);
+        made += ended(&run, &[Raw::Request], answer(7, 9, 2, 0, 0, 0));
     }
     let again = Raw::stopped(1, 0, 0, 209);
     for failures in [0, 1] {
         let mut run = open(settings(2));
         put(&mut run, 2, &WANTS_ACK);
         put_next(&mut run);
-        calls(&mut run, &[tx(70, 2, 20), entered_from_off(), entered_after_sending(900, 5)]);
+        calls(&mut run, &[tx(70, 2, 20), Raw::Request, entered_from_off()]);
+        calls(&mut run, &[entered_after_sending(900, 5)]);
         calls(&mut run, &[again][..failures]);
         let after = [Raw::None, rx(10, 3), tx(10, 3, 9), tx(10, 5, 9)];
         made += ended(&run, &after, answer(2, 70, 2, 0, 900, 0));
@@ -190,6 +191,11 @@ fn windows() {
 
 fn made(raws: &[Raw]) -> Vec<Step> {
     raws.iter().map(|raw| Step::Call(*raw)).collect()
+}
+
+/// An arrival, the Request that takes it, and these calls.
+fn asked(arrival: Raw, then: &[Raw]) -> Vec<Raw> {
+    [&[arrival, Raw::Request], then].concat()
 }
 
 fn written(buffer: u8, bytes: &[u8]) -> Vec<Step> {
@@ -215,30 +221,37 @@ fn story() -> Vec<Step> {
     let seen = Raw::outbound_seen(0, 0, 0);
     [
         written(5, &WANTS_ACK),
-        made(&[rx(9, 2), from_off]),
-        // Three re-arms, each of which exchanges the buffers; then a frame for us, and the next reception begins.
+        made(&asked(rx(9, 2), &[from_off])),
+        // Three re-arms, each of which exchanges the buffers; then a frame for us, and the next reception begins, with a Tx that is
+        // seen, and withdrawn as the stop failed.
         heard(2, &TO_OTHERS, &[received]),
         heard(SPARE, &TO_OTHERS, &[damaged]),
         heard(2, &TO_OTHERS, &[nothing]),
-        heard(SPARE, &TO_US, &[rx(10, 3), received, seen, failed]),
+        heard(
+            SPARE,
+            &TO_US,
+            &asked(rx(10, 3), &[received, tx(12, 5, 9), seen, failed, Raw::withdraw(12)]),
+        ),
         // A re-arm before one that turns out to be damaged in its ACK turn, and one whose next Tx falls back.
         heard(3, &TO_OTHERS, &[received]),
-        heard(2, &TO_US_WITH_ACK, &[damaged, rx(11, 0), sent]),
-        heard(0, &TO_US, &[tx(12, 5, 9), Raw::fallback(FRAME, 37, 58, 2, 0, 0)]),
-        // A window that ends with a frame, an ACK's window that ends with a damaged one, and an ACK.
-        made(&[rx(13, SPARE), from_off, seen, Raw::stopped(FRAME, 36, 59, 0)]),
-        made(&[tx(14, 5, 9), from_off, sent, Raw::stopped(CRC_ERROR, 0, 60, 0), Raw::None]),
-        made(&[tx(15, 5, 9), from_off, sent, started, Raw::None]),
+        heard(2, &TO_US_WITH_ACK, &[damaged]),
+        made(&asked(rx(11, 0), &[sent])),
+        heard(0, &TO_US, &asked(tx(12, 5, 9), &[Raw::fallback(FRAME, 37, 58, 2, 0, 0)])),
+        // A window that ends with a frame for the Tx that was seen, its ACK's window that ends with a damaged one, and an ACK.
+        made(&asked(rx(13, SPARE), &[from_off, tx(14, 5, 9), seen])),
+        made(&[Raw::stopped(FRAME, 36, 59, 0), Raw::Request]),
+        made(&[from_off, sent, Raw::stopped(CRC_ERROR, 0, 60, 0), Raw::None]),
+        made(&asked(tx(15, 5, 9), &[from_off, sent, started, Raw::None])),
         written(3, &[0x02, 0x00, 7]),
         made(&[Raw::entered(FRAME, 3, 61, 5, 0)]),
-        made(&[rx(16, 2), from_off]),
+        made(&asked(rx(16, 2), &[from_off])),
         heard(2, &TO_US, &[Raw::None, received]),
     ]
     .concat()
 }
 
-/// What a call left in state, reply and pool, the qualities of receive answers taken out.
-type Left = [Vec<u8>; 3];
+/// What a call left in state, line, reply and pool, the qualities of receive answers taken out.
+type Left = [Vec<u8>; 4];
 
 /// The story with these qualities: what each call left, and the code of each answer. A receive answer has its own call's quality.
 fn told(mut quality: impl FnMut(usize) -> u8) -> (Vec<Left>, Vec<u8>) {
@@ -264,13 +277,18 @@ fn told(mut quality: impl FnMut(usize) -> u8) -> (Vec<Left>, Vec<u8>) {
                 reply[at]
             );
         }
-        left.push([run.pair.state().to_vec(), reply, run.pair.pool().to_vec()]);
+        left.push([
+            run.pair.state().to_vec(),
+            run.pair.line().to_vec(),
+            reply,
+            run.pair.pool().to_vec(),
+        ]);
     }
     (left, codes)
 }
 
 /// No state holds a quality: each answer has its own call's, whatever the calls before it told, and of two runs that differ in
-/// qualities alone every state, every pool and all else of the replies are the same.
+/// qualities alone every state, every line, every pool and all else of the replies are the same.
 #[test]
 fn never_kept() {
     let (without, codes) = told(|_| 0);
@@ -292,11 +310,12 @@ fn never_kept() {
     );
 }
 
-/// Returned number, state, reply and pool of one call.
-fn outcome(from: &Reached, raw: &Raw) -> (u8, [Vec<u8>; 3]) {
-    let mut pair = Pair::on(&from.state, &from.pool);
+/// Returned number, state, reply, line and pool of one call.
+fn outcome(from: &Reached, raw: &Raw) -> (u8, [Vec<u8>; 4]) {
+    let mut pair = Pair::on(&from.state, &from.line, &from.pool);
     let returned = pair.must(raw);
-    (returned, [pair.state().to_vec(), pair.reply().to_vec(), pair.pool().to_vec()])
+    let left = [pair.state(), pair.reply(), pair.line(), pair.pool()];
+    (returned, left.map(<[u8]>::to_vec))
 }
 
 /// Each call that has the number, with this outcome or result and every cause; the quality is 0.
@@ -375,13 +394,14 @@ fn twin_step(rng: &mut Rng, run: &mut Run, twin: &mut Run) -> Result<bool, Strin
     match [
         (&reply[..], other),
         (run.pair.state(), twin.pair.state()),
+        (run.pair.line(), twin.pair.line()),
         (run.pair.pool(), twin.pair.pool()),
     ]
     .iter()
     .position(|(one, other)| one != other)
     {
         None => Ok(received),
-        Some(which) => different(["the reply", "the state", "the pool"][which]),
+        Some(which) => different(["the reply", "the state", "the line", "the pool"][which]),
     }
 }
 

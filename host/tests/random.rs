@@ -3,10 +3,11 @@ mod common;
 mod model;
 
 use common::frames::{self, For, EVERY_FOR};
+use common::met::{Before, Frames, Met, Tally, BEST_EFFORT, EVERY_MET, IDLE, NAMED, TX_OR_BEST_EFFORT};
 use common::random::Rng;
 use common::run::{fail, Opening, Run};
 use common::{choose, compare::Pair, divisor, reached::every_wait, rounds, seed};
-use model::calls::{Raw, CALL_NAMES};
+use model::calls::{Raw, Request, Start, CALL_NAMES};
 use model::engine::Wait;
 use std::collections::{BTreeMap, BTreeSet};
 
@@ -15,8 +16,8 @@ use std::collections::{BTreeMap, BTreeSet};
 struct Coverage {
     calls: u64,
     runs: u64,
-    accepted: [u64; 9],
-    refused: [u64; 12],
+    accepted: [u64; 11],
+    refused: [u64; 14],
     start_refused: [u64; 5],
     waits: BTreeMap<[u8; 3], u64>,
     actions: BTreeMap<u8, u64>,
@@ -24,19 +25,43 @@ struct Coverage {
     /// By answer: 6 a frame, 8 a CRC error.
     qualities: BTreeMap<u8, BTreeSet<u8>>,
     requested: BTreeMap<For, u64>,
+    met: Tally,
+    /// Accepted calls by how many wait after them, and in which wait.
+    lengths: BTreeMap<usize, BTreeMap<[u8; 3], u64>>,
+    /// What has left at which ask: direction and start.
+    left: BTreeMap<[u8; 3], BTreeSet<(bool, bool)>>,
+}
+
+/// Whether it transmits, and whether it is timed.
+fn kind(request: &Request) -> (bool, bool) {
+    (request.transmits(), request.start() != Start::BestEffort)
 }
 
 impl Coverage {
     /// Counts a call that was made on the run's own slices, or (no call) on a copy.
-    fn count(&mut self, run: &Run, returned: u8, raw: Option<Raw>) {
+    fn count(&mut self, before: &Before, frames: &mut Frames, run: &Run, returned: u8, raw: Option<Raw>) {
         self.calls += 1;
-        if returned != 0 {
-            self.refused[usize::from(returned)] += 1;
-            return;
-        }
+        self.refused[usize::from(returned)] += u64::from(returned != 0);
         let Some(raw) = raw else { return };
+        for met in before.met(&raw, returned) {
+            self.met.add(met, before.wait());
+        }
+        if returned == 0 {
+            self.count_accepted(before, frames, run, raw);
+        }
+    }
+
+    fn count_accepted(&mut self, before: &Before, frames: &mut Frames, run: &Run, raw: Raw) {
         self.accepted[raw.kind()] += 1;
         *self.waits.entry(run.codes()).or_default() += 1;
+        let waiting = run.read.1 .0.len();
+        *self.lengths.entry(waiting).or_default().entry(run.codes()).or_default() += 1;
+        if let Some(changed) = frames.changed(before, &raw, run.pair.pool()) {
+            self.met.add(changed, before.wait());
+        }
+        if let Some(leaving) = before.leaving().filter(|_| raw == Raw::Request) {
+            self.left.entry(before.wait()).or_default().insert(kind(&leaving));
+        }
         let reply = run.pair.reply();
         *self.actions.entry(reply[0]).or_default() += 1;
         for (place, at) in [12, 30].into_iter().enumerate() {
@@ -52,7 +77,7 @@ impl Coverage {
 
     /// Counts a header that was read, if it is for us, requests an ACK and has a number. Only one for us alone gets an ACK turn.
     fn count_requested(&mut self, run: &Run, arrived: u16) {
-        let state = run.state();
+        let state = run.read.0;
         let Some((_, buffer)) = state.wait.open()[0] else { return };
         let frame = state.settings.frame(buffer);
         let bytes = &run.pair.pool()[frame..frame + usize::from(arrived)];
@@ -80,6 +105,10 @@ impl Coverage {
             &self.start_refused[1..]
         );
         println!("  waits: {:?}", self.waits);
+        let met: Vec<(Met, u64)> = EVERY_MET.into_iter().map(|met| (met, self.met.total(met))).collect();
+        println!("random: on the line: {met:?}");
+        let lengths: Vec<u64> = self.lengths.values().map(|waits| waits.values().sum()).collect();
+        println!("random: accepted calls after which 0 to 4 wait: {lengths:?}");
         println!("  actions: {:?}", self.actions);
         println!("  answers, first: {:?}, second: {:?}", self.answers[0], self.answers[1]);
         let qualities: Vec<usize> = self.qualities.values().map(BTreeSet::len).collect();
@@ -95,8 +124,8 @@ impl Coverage {
             assert!(count >= 1_000, "{name} was accepted only {count} times");
         }
         // 3 and 4 are start's alone: a state slice with such settings is refused with 1.
-        let numbers: Vec<usize> = (1..12).filter(|number| self.refused[*number] > 0).collect();
-        assert_eq!(numbers, [1, 2, 5, 6, 7, 8, 9, 10, 11], "refusals of calls");
+        let numbers: Vec<usize> = (1..14).filter(|number| self.refused[*number] > 0).collect();
+        assert_eq!(numbers, [1, 2, 5, 6, 7, 8, 9, 10, 11, 12, 13], "refusals of calls");
         let numbers: Vec<usize> = (1..5).filter(|number| self.start_refused[*number] > 0).collect();
         assert_eq!(numbers, [1, 2, 3, 4], "refusals of start");
         let mut waits = every_wait();
@@ -106,10 +135,10 @@ impl Coverage {
             waits,
             "not exactly the waits that can be reached"
         );
-        // Each action but "nothing"; each answer can be the first, and only an error the second.
+        // Each answer can be the first, and only an error the second.
         assert_eq!(
             self.actions.keys().copied().collect::<Vec<_>>(),
-            (1..=11).collect::<Vec<u8>>()
+            (0..=11).collect::<Vec<u8>>()
         );
         assert_eq!(
             self.answers[0].keys().copied().collect::<Vec<_>>(),
@@ -124,6 +153,34 @@ impl Coverage {
             let count = self.requested.get(&whom).copied().unwrap_or_default();
             assert!(count >= 500, "{whom:?} was reached only {count} times");
         }
+        self.check_line(&waits);
+    }
+
+    /// What document 02, E1, says of the line has happened, in the waits in which it can and in no other.
+    fn check_line(&self, every_wait: &[[u8; 3]]) {
+        for met in EVERY_MET {
+            let (waits, total) = (self.met.waits(met), self.met.total(met));
+            assert_eq!(
+                waits,
+                met.waits(every_wait),
+                "{met:?} was not met in exactly the waits in which it can be"
+            );
+            assert!(total >= 1_000, "{met:?} was met only {total} times");
+        }
+        for (waiting, waits) in &self.lengths {
+            // The Tx that OutboundSeen named waits.
+            let expected = every_wait.iter().filter(|wait| *waiting > 0 || !NAMED.contains(wait));
+            assert!(waits.keys().eq(expected), "{waiting} wait, in {waits:?}");
+        }
+        assert!(self.lengths.keys().copied().eq(0..=4));
+        let (tx, timed_tx, rx, timed_rx) = ((true, false), (true, true), (false, false), (false, true));
+        let mut left = BTreeMap::from([
+            (IDLE, BTreeSet::from([tx, timed_tx, rx, timed_rx])),
+            (NAMED[0], BTreeSet::from([tx, timed_tx])),
+        ]);
+        left.extend(TX_OR_BEST_EFFORT.map(|wait| (wait, BTreeSet::from([tx, timed_tx, rx]))));
+        left.extend(BEST_EFFORT.map(|wait| (wait, BTreeSet::from([tx, rx]))));
+        assert_eq!(self.left, left, "not exactly the requests that may leave at each ask");
     }
 }
 
@@ -136,14 +193,16 @@ fn odd_starts(rng: &mut Rng, coverage: &mut Coverage) {
             choose::settings(rng)
         };
         let length = 144 * usize::from(raw.count);
-        let lengths = match rng.below(6) {
-            0 => (rng.pick(&[0, 63, 65]), 48, length),
-            1 => (64, rng.pick(&[0, 47, 49]), length),
-            2 => (64, 48, rng.pick(&[0, length + 1, length + 143, length.saturating_sub(1)])),
-            _ => (64, 48, length),
-        };
-        let (state, reply, pool) = (vec![0x11; lengths.0], vec![0x22; lengths.1], vec![0x33; lengths.2]);
-        let returned = Pair::new(&state, &reply, &pool).start(&raw);
+        let mut lengths = [64, 96, 48, length];
+        match rng.below(8) {
+            0 => lengths[0] = rng.pick(&[0, 63, 65]),
+            1 => lengths[1] = rng.pick(&[0, 95, 97]),
+            2 => lengths[2] = rng.pick(&[0, 47, 49]),
+            3 => lengths[3] = rng.pick(&[0, length + 1, length + 143, length.saturating_sub(1)]),
+            _ => {}
+        }
+        let [state, line, reply, pool] = [0, 1, 2, 3].map(|slice| vec![0x11 * (1 + slice as u8); lengths[slice]]);
+        let returned = Pair::new(&state, &line, &reply, &pool).start(&raw);
         let returned = returned.unwrap_or_else(|wrong| panic!("{wrong}\n{raw:?} with slices of {lengths:?}"));
         coverage.start_refused[usize::from(returned)] += 1;
         coverage.calls += 1;
@@ -167,9 +226,11 @@ fn random_run(seed: u64, coverage: &mut Coverage) {
         5..=8 => 200,
         _ => 2_000,
     };
+    let mut frames = Frames::default();
     for _ in 0..steps {
+        let before = Before::of(&run);
         match run.random_step(&mut rng) {
-            Ok((returned, raw)) => coverage.count(&run, returned, raw),
+            Ok((returned, raw)) => coverage.count(&before, &mut frames, &run, returned, raw),
             Err(wrong) => fail(seed, &run, &wrong),
         }
     }

@@ -9,12 +9,15 @@ use common::random::Rng;
 use common::reached::{collect, Reached};
 use common::run::{Opening, Run, Step};
 use common::{choose, rounds, seed, stride};
-use model::bytes::read_state;
 use model::calls::{Raw, RawStart};
+
+/// Two buffers beside the own ones: one to listen with, and one for the Tx that OutboundSeen names.
+const COUNT: u8 = 4;
+const POOL: usize = 144 * COUNT as usize;
 
 fn good_start() -> RawStart {
     RawStart {
-        count: 3,
+        count: COUNT,
         headroom: 1,
         tailroom: 2,
         fcs_length: 2,
@@ -26,7 +29,7 @@ fn good_start() -> RawStart {
     }
 }
 
-/// The slices after these calls from start, with n = 3.
+/// The slices after these calls from start.
 fn after(raws: &[Raw]) -> Reached {
     let mut run = Run::open(Opening {
         start: good_start(),
@@ -39,32 +42,33 @@ fn after(raws: &[Raw]) -> Reached {
     for raw in raws {
         assert_eq!(run.step(Step::Call(*raw)), Ok(0), "{raw:?}");
     }
-    Reached {
-        state: run.pair.state().to_vec(),
-        pool: run.pair.pool().to_vec(),
-    }
+    Reached::of(&run)
 }
 
 /// One call of each function, on slices on which it is accepted if they have their right lengths.
 fn fitting_calls() -> Vec<(Raw, Reached)> {
-    let request = |direction| Raw::request(5, direction, 0, 0, 2, 9, 0);
-    let (transmit, receive) = (request(0), request(1));
+    let transmit = Raw::arrive(6, 0, 1, 77, 3, 9, 1);
+    let receive = Raw::arrive(5, 1, 0, 0, 2, 0, 0);
     let entered = Raw::entered(0, 0, 0, 5, 6);
     let stopped = Raw::stopped(0, 0, 0, 7);
     let header = Raw::header(9, 30);
     let fallback = Raw::fallback(0, 0, 0, 2, 0, 8);
-    let path = [receive, entered, Raw::FrameStart, stopped, header, Raw::None];
+    let path = [receive, Raw::Request, entered, Raw::FrameStart, stopped, header, Raw::None];
+    let seen = [receive, Raw::Request, entered, transmit];
     vec![
         (transmit, after(&[])),
-        (receive, after(&[])),
-        (entered, after(&path[..1])),
-        (Raw::FrameStart, after(&path[..2])),
-        (Raw::outbound_seen(1, 77, 1), after(&path[..2])),
-        (stopped, after(&path[..3])),
-        (header, after(&path[..4])),
-        (Raw::None, after(&path[..5])),
+        (receive, after(&[transmit])),
+        (Raw::withdraw(6), after(&[transmit, receive])),
+        (Raw::Request, after(&[transmit])),
+        (Raw::Request, after(&[receive])),
+        (entered, after(&path[..2])),
+        (Raw::FrameStart, after(&path[..3])),
+        (Raw::outbound_seen(1, 77, 1), after(&seen)),
+        (stopped, after(&path[..4])),
+        (header, after(&path[..5])),
+        (Raw::None, after(&path[..6])),
         (Raw::Rollback, after(&path)),
-        (fallback, after(&[transmit])),
+        (fallback, after(&[transmit, Raw::Request])),
     ]
 }
 
@@ -76,18 +80,19 @@ enum Empty {
 }
 
 /// Start (no call) or the call, on slices of these lengths; a length beyond the slice is made up with other bytes.
-fn returned(call: &Option<(Raw, Reached)>, lengths: [usize; 3]) -> u8 {
+fn returned(call: &Option<(Raw, Reached)>, lengths: [usize; 4]) -> u8 {
     returned_on(call, lengths, Empty::Place)
 }
 
-fn returned_on(call: &Option<(Raw, Reached)>, lengths: [usize; 3], empty: Empty) -> u8 {
-    let (mut state, mut pool) = match call {
-        None => (vec![0x44; 64], vec![0x55; 432]),
-        Some((_, reached)) => (reached.state.clone(), reached.pool.clone()),
+fn returned_on(call: &Option<(Raw, Reached)>, lengths: [usize; 4], empty: Empty) -> u8 {
+    let (mut state, mut line, mut pool) = match call {
+        None => (vec![0x44; 64], vec![0x99; 96], vec![0x55; POOL]),
+        Some((_, reached)) => (reached.state.clone(), reached.line.clone(), reached.pool.clone()),
     };
     state.resize(lengths[0], 0);
-    pool.resize(lengths[2], 0x66);
-    let mut pair = Pair::new(&state, &vec![0x88; lengths[1]], &pool);
+    line.resize(lengths[1], 0);
+    pool.resize(lengths[3], 0x66);
+    let mut pair = Pair::new(&state, &line, &vec![0x88; lengths[2]], &pool);
     if empty == Empty::Null {
         pair = pair.null_if_empty();
     }
@@ -98,73 +103,98 @@ fn returned_on(call: &Option<(Raw, Reached)>, lengths: [usize; 3], empty: Empty)
     let returned = returned.unwrap_or_else(|wrong| panic!("{wrong}\n{call:?} on slices of {lengths:?}"));
     if returned != 0 {
         assert_eq!(pair.state(), state, "a refusal changed the state slice");
+        assert_eq!(pair.line(), line, "a refusal changed the line slice");
         assert_eq!(pair.pool(), pool, "a refusal changed the pool");
     }
     returned
 }
 
-/// Start first, then the nine calls.
+/// The lengths with which the call, or start, is accepted.
+fn right_lengths(call: &Option<(Raw, Reached)>) -> [usize; 4] {
+    [64, 96, 48, call.as_ref().map_or(POOL, |call| call.1.pool.len())]
+}
+
+/// Start first, then the eleven calls.
 fn every_function() -> Vec<Option<(Raw, Reached)>> {
     let mut all = vec![None];
     all.extend(fitting_calls().into_iter().map(Some));
+    let mut kinds: Vec<usize> = all.iter().flatten().map(|call| call.0.kind()).collect();
+    kinds.sort_unstable();
+    kinds.dedup();
+    assert_eq!(kinds, (0..11).collect::<Vec<_>>());
     all
 }
 
+/// Of state, line and reply, so that the line's bytes are right or its length alone is wrong.
 #[test]
-fn wrong_state_and_reply_lengths_are_1() {
+fn wrong_lengths_are_1() {
     let mut count = 0;
     for call in every_function() {
-        let pool = call.as_ref().map_or(432, |call| call.1.pool.len());
-        assert_eq!(returned(&call, [64, 48, pool]), 0, "{call:?}");
-        for length in (0..=130).filter(|length| *length != 64).step_by(stride().min(7)) {
-            assert_eq!(returned(&call, [length, 48, pool]), 1, "{call:?}, state {length}");
-            count += 1;
-        }
-        for length in (0..=100).filter(|length| *length != 48).step_by(stride().min(7)) {
-            assert_eq!(returned(&call, [64, length, pool]), 1, "{call:?}, reply {length}");
-            count += 1;
+        let right = right_lengths(&call);
+        assert_eq!(returned(&call, right), 0, "{call:?}");
+        for (slice, longest) in [(0, 130), (1, 200), (2, 100)] {
+            for length in (0..=longest)
+                .filter(|length| *length != right[slice])
+                .step_by(stride().min(7))
+            {
+                let mut lengths = right;
+                lengths[slice] = length;
+                assert_eq!(returned(&call, lengths), 1, "{call:?}, slices of {lengths:?}");
+                count += 1;
+            }
         }
     }
-    println!("slices: {count} wrong state and reply lengths");
+    println!("slices: {count} wrong lengths of state, line and reply");
 }
 
 #[test]
 fn wrong_pool_lengths_are_2() {
     let mut count = 0;
     for call in every_function() {
-        let right = call.as_ref().map_or(432, |call| call.1.pool.len());
-        let lengths = (0..=700).chain([right - 1, right + 1, 144 * 32, 144 * 33, 65536]);
-        for length in lengths.filter(|length| *length != right).step_by(stride().min(23)) {
-            assert_eq!(returned(&call, [64, 48, length]), 2, "{call:?}, pool {length}");
+        let right = right_lengths(&call);
+        let lengths = (0..=700).chain([right[3] - 1, right[3] + 1, 144 * 32, 144 * 33, 65536]);
+        for length in lengths.filter(|length| *length != right[3]).step_by(stride().min(23)) {
+            assert_eq!(returned(&call, [64, 96, 48, length]), 2, "{call:?}, pool {length}");
             count += 1;
         }
     }
     println!("slices: {count} wrong pool lengths");
 }
 
-/// "1" before "2": a wrong state or reply slice is told first, whatever the pool is.
+/// "1" before "2": a wrong state, line or reply slice is told first, whatever the pool is.
 #[test]
 fn wrong_lengths_together_are_1_first() {
+    let rows = [
+        ([63, 96, 48], 1),
+        ([64, 95, 48], 1),
+        ([64, 96, 47], 1),
+        ([0, 0, 0], 1),
+        ([64, 0, 48], 1),
+        ([65, 97, 49], 1),
+        ([96, 64, 48], 1),
+        ([64, 48, 96], 1),
+        ([64, 96, 48], 2),
+    ];
     for call in every_function() {
-        for (state, reply, expected) in [(63, 48, 1), (64, 47, 1), (0, 0, 1), (65, 49, 1), (64, 48, 2)] {
-            for pool in [0, 143, 431, 433, 4609] {
-                assert_eq!(returned(&call, [state, reply, pool]), expected, "{call:?}");
+        for ([state, line, reply], expected) in rows {
+            for pool in [0, 143, POOL - 1, POOL + 1, 4609] {
+                assert_eq!(returned(&call, [state, line, reply, pool]), expected, "{call:?}");
             }
         }
     }
 }
 
-/// Null pointers with length 0 in place of each slice, each two and all three. The comparison with the model shows that the slices
-/// that are there keep every byte.
+/// Null pointers with length 0 in place of each slice, and of each two, three and four. The comparison with the model shows that the
+/// slices that are there keep every byte.
 fn null_pointers(call: &Option<(Raw, Reached)>) -> u64 {
-    let right = [64, 48, call.as_ref().map_or(432, |call| call.1.pool.len())];
-    for set in 1..8 {
-        let null = [set & 1 != 0, set & 2 != 0, set & 4 != 0];
-        let lengths = [0, 1, 2].map(|slice| if null[slice] { 0 } else { right[slice] });
-        let expected = if null[0] || null[1] { 1 } else { 2 };
+    let right = right_lengths(call);
+    for set in 1..16 {
+        let null = [0, 1, 2, 3].map(|slice| set >> slice & 1 == 1);
+        let lengths = [0, 1, 2, 3].map(|slice| if null[slice] { 0 } else { right[slice] });
+        let expected = if null[..3].contains(&true) { 1 } else { 2 };
         assert_eq!(returned_on(call, lengths, Empty::Null), expected, "{call:?}, null {null:?}");
     }
-    7
+    15
 }
 
 #[test]
@@ -173,8 +203,7 @@ fn null_pointers_with_length_0_are_refused() {
     let mut count: u64 = every_function.iter().map(null_pointers).sum();
     let mut rng = Rng::new(seed(11));
     for from in collect(seed(12), 2) {
-        let state = read_state(&from.state).expect("a reached state");
-        let raw = choose::fitting(&mut rng, &state, &from.pool);
+        let raw = choose::fitting(&mut rng, from.now(&from.read()));
         count += null_pointers(&Some((raw, from)));
     }
     println!("slices: {count} calls with null pointers of length 0");
@@ -188,22 +217,25 @@ fn wrong_lengths_in_every_wait() {
     let count = rounds(100_000);
     for round in 0..count {
         let from = &reached[round as usize % reached.len()];
-        let state = read_state(&from.state).expect("a reached state");
+        let read = from.read();
         let raw = if rng.chance(50) {
-            choose::fitting(&mut rng, &state, &from.pool)
+            choose::fitting(&mut rng, from.now(&read))
         } else {
-            choose::any(&mut rng, &state)
+            choose::any(&mut rng, from.now(&read))
         };
-        let lengths = [rng.below(131), rng.below(101), rng.below(701)];
-        let right = [64, 48, from.pool.len()];
-        let lengths = match rng.below(4) {
-            0 => [lengths[0], right[1], right[2]],
-            1 => [right[0], lengths[1], right[2]],
-            2 => [right[0], right[1], lengths[2]],
-            _ => lengths,
-        };
+        let other = [rng.below(131), rng.below(201), rng.below(101), rng.below(701)];
+        let right = [64, 96, 48, from.pool.len()];
+        // One of the four, or all.
+        let which = rng.below(5);
+        let lengths = [0, 1, 2, 3].map(|slice| {
+            if which == slice || which == 4 {
+                other[slice]
+            } else {
+                right[slice]
+            }
+        });
         if lengths != right {
-            let expected = if lengths[..2] == right[..2] { 2 } else { 1 };
+            let expected = if lengths[..3] == right[..3] { 2 } else { 1 };
             assert_eq!(returned(&Some((raw, from.clone())), lengths), expected, "{raw:?}");
         }
     }

@@ -1,17 +1,21 @@
-"""Between the oracle's language and driver_replay's records and lines, from standard input to standard output.
+"""Between the oracle's language and the replay programs' records and lines, from standard input to standard output.
 
     convert.py records          a script to records; a start is preceded by a record that empties the pool, as the oracle's is,
-                                and a dump becomes dumps of every 48 bytes
-    convert.py script           records to a script; lend, clear and link qualities, for which the oracle has no word, are left out
+                                a dump becomes dumps of every 48 bytes, and a request with fields an Arrive, a Request and a Withdraw,
+                                which is refused if it has left
+    convert.py script           records to a script, a Request with the fields of the request that leaves our line, or else of the first
+                                that waits; what the oracle has no word for is left out: lend, clear, link qualities, calls on the line
+                                and the line's bytes, and a Request with an empty line
     convert.py lines SCRIPT     the oracle's replies to that script, to lines; a refusal's number, which it does not give, is ff, a
-                                link quality 00
+                                link quality 00; of a call on the line, which it is not asked, there is no line
 
 A line of a script that no record can hold (a number too big for its type, a word that there is not) is named on standard error.
 """
 
 import sys
 
-from records import KINDS, SILENT, dump_line, from_record, from_script, reply_of, to_line, to_record, to_script
+from model import LINE_CALLS, Model
+from records import KINDS, SILENT, dump_line, from_record, from_script, reply_of, to_line, to_oracle, to_record
 
 
 def places(count):
@@ -49,21 +53,33 @@ def records():
         sys.stdout.write(to_record(call))
 
 
+def make(model, call):
+    """Makes a call, or any other record, on the model."""
+    if call[0] == "start":
+        model.start(call)
+    elif call[0] in SILENT:
+        model.other(call)
+    elif call[0] not in ("dump", "line", "ack"):
+        model.step(call)
+
+
 def script():
-    dumped = False
+    model, dumped = Model(), False
     for text in sys.stdin:
         call = from_record(text)
-        if call[0] in ("lend", "clear"):
+        q = (model.leaving() or (model.line or [None])[0]) if call[0] == "request" else None
+        make(model, call)
+        if call[0] in ("lend", "clear", "line") + LINE_CALLS or call[0] == "request" and q is None:
             continue
         dump = call[0] in ("dump", "ack")
         if not (dump and dumped):
-            print("dump" if dump else to_script(call, quality=False))
+            print(to_oracle(call, q.call() if q else None))
         dumped = dump
 
 
 def lines(path):
     for call in calls_of(open(path)):
-        if call is not None and call[0] in SILENT:
+        if call is not None and call[0] in SILENT + LINE_CALLS + ("line",):
             continue
         text = sys.stdin.readline().strip()
         if call is None:

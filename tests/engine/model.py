@@ -1,14 +1,17 @@
-"""Document 01, with requests E4 and E6, as a plain model, one wait to a name: what a call does to it, with the number of the
+"""Document 01, with requests E1, E4 and E6, as a plain model, one wait to a name: what a call does to it, with the number of the
 refusal.
 
 Written from their sentences (quoted in the comments). It shares nothing with the Rattle engine and its definitions.
-Held tokens and buffers are kept as the book of document 01 keeps them, not read off the wait.
+Held tokens and buffers are kept as the book of document 01 keeps them, not read off the wait; so is what waits in the line.
 """
 
 TOP = (1 << 64) - 1
 POOL = 4752
+# Request E1: "`DRIVER_CHANNEL_CAPACITY` is 4".
+CAPACITY = 4
 
-# Which calls fit a wait, and with which outcome kinds.
+# Which calls fit a wait, and with which outcome kinds. Request E1: "Requests arrive and may be withdrawn by token in every wait": of
+# these two nothing stands here.
 RX = ("frame", "ended", "crc")
 ACK = ("frame", "crc")  # "and "window ended" does not fit"
 FITS = {
@@ -44,8 +47,9 @@ FITS = {
     "acktx-off": {"entered": ("sent",)},
 }
 WAITS = tuple(FITS)
+LINE_CALLS = ("arrive", "withdraw")
 
-# Refusal 9: which of Tx at a time, Rx best effort, Rx at a time an asking wait takes (Tx best effort it takes always).
+# What a wait that asks allows: which of Tx at a time, Rx best effort, Rx at a time (Tx best effort it allows always).
 TAKES = {
     "idle": (True, True, True),
     "ask-window": (True, False, False),
@@ -57,8 +61,33 @@ TAKES = {
 }
 
 
+# The waits in which the Tx that OutboundSeen named is named still: "its stop or the ask after its window ended still open" (E1).
+NAMED = ("stop-outbound", "ask-window")
+# How many can wait in each wait.
+WAITING = tuple((wait, k) for wait in WAITS for k in range(1 if wait in NAMED else 0, CAPACITY + 1))
+
+
 class Req:
-    __slots__ = ("token", "direction", "buffer", "length", "number", "number_in_rust")
+    """A request from its arrival to its answer; the two numbers are noted when it leaves the line."""
+    __slots__ = ("token", "direction", "start", "buffer", "length", "check", "number", "number_in_rust")
+
+    def __init__(self, call):
+        """As it arrives."""
+        _, self.token, self.direction, self.start, self.buffer = call[:5]
+        self.length, self.check = call[5:] if self.direction == "tx" else (0, 0)
+        self.number = self.number_in_rust = None
+
+    def call(self):
+        """Its arrival."""
+        head = ("arrive", self.token, self.direction, self.start, self.buffer)
+        return head + (self.length, self.check) if self.direction == "tx" else head
+
+    def bytes(self):
+        """Its record of 24 bytes (docs/LAYOUTS.md, "The line's 96 bytes")."""
+        kind = 1 if self.direction == "tx" else 2
+        start = 0 if self.start is None else 1
+        return (bytes((kind, start, self.check, self.buffer)) + self.token.to_bytes(4, "little")
+                + (self.start or 0).to_bytes(8, "little") + self.length.to_bytes(2, "little") + bytes(6))
 
 
 def settings_refusal(call, pool_length):
@@ -110,7 +139,9 @@ class Model:
         self.set = ("start", 0, 0, 0, 0, 0, 0, 0, 0, 0, 0)
         self.wait = "idle"
         self.data = ()
-        self.open = []   # unanswered requests
+        self.open = []      # unanswered requests that have left the line
+        self.line = []      # those that wait, in the order of their arrival
+        self.named = None   # the Tx that the last OutboundSeen named
         self.spare = 0
 
     # -- settings
@@ -123,6 +154,7 @@ class Model:
         self.n, self.h, self.f, self.ack, self.spare = call[1], call[2], call[4], call[8], call[9]
         self.lent = call[10]
         self.wait, self.data, self.open = "idle", (), []
+        self.line, self.named = [], None    # "Start empties it." (E1)
         at = self.frame(self.ack)
         self.pool[at:at + 3] = b"\x02\x10\x00"
         return 0, ("idle",), ()
@@ -144,7 +176,8 @@ class Model:
     # -- the book
 
     def held(self):
-        return {self.ack, self.spare} | {q.buffer for q in self.open}
+        """Request E1: "A waiting request's buffer is held from arrival and counts in the held total; withdrawal frees it"."""
+        return {self.ack, self.spare} | {q.buffer for q in self.open + self.line}
 
     def answer(self, q, what, *rest):
         self.open.remove(q)
@@ -168,12 +201,20 @@ class Model:
         if wrong:
             return wrong
         what = call[0]
+        if what in LINE_CALLS:
+            return self.arrive_refusal(call) if what == "arrive" else self.withdraw_refusal(call[1])
         fits = FITS[self.wait]
         if what not in fits:
             return 5
         kinds = fits[what]
         if what == "request":
-            return self.request_refusal(call)
+            # "a Request, now without fields, that finds none such is 9" (E1)
+            return 0 if self.leaving() else 9
+        if what == "none":
+            # "where a wait takes None, it now fits exactly if the line holds no such arrival" (E1)
+            return 5 if self.leaving() else 0
+        if what == "outbound":
+            return 0 if self.is_seen(*call[1:]) else 5
         if what == "stopped":
             if call[1] not in kinds:
                 return 5
@@ -193,20 +234,55 @@ class Model:
     def length_refusal(self, result):
         return 10 if result[0] == "frame" and not 1 <= result[1] <= 127 - self.f else 0
 
-    def request_refusal(self, call):
-        token, direction, start, buffer = call[1:5]
+    def arrive_refusal(self, call):
+        """Document 01's 6 to 8, as request E1 has them: "6 is for arrivals only and looks at requests that have left the line",
+        "A waiting request's buffer is held from arrival", "Arrival skips 9"; then "12 for an arrival when four wait; 13 when the token
+        already waits ..; both after 8"."""
+        token, direction, _, buffer = call[1:5]
         if any(q.token == token for q in self.open):
             return 6
         if buffer >= self.n or buffer in self.held():
             return 7
         if direction == "tx" and not 3 <= call[5] <= 127 - self.f:
             return 8
+        if len(self.line) == CAPACITY:
+            return 12
+        return 13 if self.waiting(token) else 0
+
+    def withdraw_refusal(self, token):
+        """Request E1: "13 when the token .., for a withdrawal, does not [wait] or is the Tx OutboundSeen named, its stop or the ask
+        after its window ended still open"."""
+        q = self.waiting(token)
+        return 13 if q is None or self.wait in NAMED and q is self.named else 0
+
+    # -- the line
+
+    def waiting(self, token):
+        """The request that waits with this token, or None."""
+        return next((q for q in self.line if q.token == token), None)
+
+    def allows(self, q):
+        """Whether the wait, which asks, allows a request's direction and start."""
         timed_tx, rx, timed_rx = TAKES[self.wait]
-        if direction == "tx":
-            allowed = start is None or timed_tx
-        else:
-            allowed = rx if start is None else timed_rx
-        return 0 if allowed else 9
+        if q.direction == "tx":
+            return q.start is None or timed_tx
+        return rx if q.start is None else timed_rx
+
+    def leaving(self):
+        """Request E1: "An ask takes the earliest arrival whose direction and start the wait allows". None where nothing is asked."""
+        return next((q for q in self.line if self.allows(q)), None) if self.wait in TAKES else None
+
+    def earliest_tx(self):
+        return next((q for q in self.line if q.direction == "tx"), None)
+
+    def is_seen(self, start, check):
+        """Request E1: "OutboundSeen fits only with the start and flag of its earliest Tx"."""
+        q = self.earliest_tx()
+        return q is not None and (q.start, q.check) == (start, check)
+
+    def line_bytes(self):
+        """The line's 96 bytes: a record for each that waits; free ones come last and are all 0."""
+        return b"".join(q.bytes() for q in self.line).ljust(24 * CAPACITY, b"\0")
 
     # -- accepted calls
 
@@ -221,20 +297,31 @@ class Model:
     def go(self, wait, *data):
         self.wait, self.data = wait, data
 
-    def accept(self, call):
-        q = Req()
-        q.token, q.direction, _, q.buffer = call[1:5]
-        q.length, q.number, q.number_in_rust = 0, None, None
-        if q.direction == "tx":
-            q.length = call[5]
-            at = self.frame(q.buffer)
-            control = self.pool[at] | self.pool[at + 1] << 8
-            # "A Tx frame wants an ACK if its control at acceptance has bit 5 and its number is not suppressed", to whomever it goes
-            if control >> 5 & 1:
-                if not suppressed(control):
-                    q.number = self.pool[at + 2]
-                if not control >> 8 & 1:
-                    q.number_in_rust = self.pool[at + 2]
+    def arrive(self, call):
+        """No action for the radio, and no answer; the wait stays."""
+        self.line.append(Req(call))
+        return ("nothing",), ()
+
+    def withdraw(self, call):
+        self.line.remove(self.waiting(call[1]))
+        return ("nothing",), ()
+
+    def noted(self, q):
+        """The number that is noted of a Tx frame whose bytes stand in the pool now, and the one that the Rust notes; None where no
+        ACK is wanted. "A Tx frame wants an ACK if its control at acceptance has bit 5 and its number is not suppressed", to whomever
+        it goes; request E1: "Acceptance, where it says when a Tx frame's bytes are noted, is leaving."."""
+        at = self.frame(q.buffer)
+        control = self.pool[at] | self.pool[at + 1] << 8
+        if q.direction == "rx" or not control >> 5 & 1:
+            return None, None
+        number = self.pool[at + 2]
+        return None if suppressed(control) else number, None if control >> 8 & 1 else number
+
+    def leave_line(self):
+        """6, 7 and 8 are not tested again: "on leaving the buffer is no ground for 7" (E1)."""
+        q = self.leaving()
+        self.line.remove(q)
+        q.number, q.number_in_rust = self.noted(q)
         self.open.append(q)
         return q
 
@@ -256,11 +343,11 @@ class Model:
             prefix, left, spacing = "tx", data, self.spacing(data[0].length + self.f)
         elif wait == "ask-acktx":
             prefix, left, spacing = "acktx", (), data[0]
-        q = self.accept(call)
+        q = self.leave_line()
         self.go("%s-%s" % (prefix, q.direction), left, q)
         if q.direction == "tx":
-            return ("tx", q.buffer, q.length, call[6], call[3], spacing, 0), answers
-        return ("rx", q.buffer, call[3], spacing, 0), answers
+            return ("tx", q.buffer, q.length, q.check, q.start, spacing, 0), answers
+        return ("rx", q.buffer, q.start, spacing, 0), answers
 
     def none(self, call):
         wait, data = self.wait, self.data
@@ -279,6 +366,7 @@ class Model:
         return ("stop", "none"), ()
 
     def outbound(self, call):
+        self.named = self.earliest_tx()
         self.go("stop-outbound", *self.data)
         return (("stop", "none") if call[1] is None else ("stop", "before", call[1], call[2])), ()
 

@@ -1,29 +1,32 @@
-"""Calls and replies in three forms: tuples, the oracle's script language, and the records and lines of driver_replay.
+"""Calls and replies in three forms: tuples, the oracle's script language, and the records and lines of the replay programs.
 
 docs/REPLAY-FORMAT.md has the records and lines, ../shared/oracle/README.md the script language, and docs/WALK.md what it has more
 here. The tuples:
 
     ("start", n, headroom, tailroom, checksum, hardware, pan, implicit, ack, spare, pool length)
-    ("pool", place, bytes)  ("clear",)  ("lend", pool length)  ("dump", place)  ("ack",)
-    ("request", token, "tx", start, buffer, length, check)  ("request", token, "rx", start, buffer)
-    ("none",)  ("framestart",)  ("outbound", start, check)
-    ("stopped", "frame")  ("stopped", "ended", rx result)  ("stopped", "failed")
+    ("pool", place, bytes)  ("clear",)  ("lend", pool length)  ("dump", place)  ("line", place)  ("ack",)
+    ("arrive", token, "tx", start, buffer, length, check)  ("arrive", token, "rx", start, buffer)
+    ("withdraw", token)  ("request",)  ("none",)  ("framestart",)
+    ("outbound", start, check)  ("stopped", "frame")  ("stopped", "ended", rx result)  ("stopped", "failed")
     ("header", arrived, length)  ("entered", result, entry)  ("fallback", result, cause)  ("rollback",)
 
 A start is None (best effort) or a time. An rx result is ("frame", length, time, quality), ("ended",) or ("crc", time, quality);
 a result is one of these, ("off",) or ("sent", time); a cause is ("sched", start) or ("task",).
 
 A reply is (refusal, action, answers): actions and answers are tuples with the words of the script language, flags as 0 or 1,
-without the channel-check flag of error-sched. The answers "frame" and "crc" have their quality last. The oracle has no word for a
-quality: to_script leaves it out where its quality is False, and one that is not written is read as 0.
+without the channel-check flag of error-sched. The action of an accepted call on the line is ("nothing",). The answers "frame" and
+"crc" have their quality last. The oracle has no word for a quality: to_script leaves it out where its quality is False, and one that
+is not written is read as 0. Nor has it a line: what it is asked is the request that its queue hands over (to_oracle).
 """
 
 KINDS = {
-    "start": "s", "pool": "w", "clear": "z", "lend": "l", "dump": "d", "ack": "a", "request": "q", "none": "n",
-    "framestart": "f", "outbound": "o", "stopped": "p", "header": "h", "entered": "e", "fallback": "b", "rollback": "r",
+    "start": "s", "pool": "w", "clear": "z", "lend": "l", "dump": "d", "line": "L", "ack": "a", "arrive": "A", "withdraw": "W",
+    "request": "q", "none": "n", "framestart": "f", "outbound": "o", "stopped": "p", "header": "h", "entered": "e",
+    "fallback": "b", "rollback": "r",
 }
-CALLS = ("request", "none", "framestart", "outbound", "stopped", "header", "entered", "fallback", "rollback")
+CALLS = ("arrive", "withdraw", "request", "none", "framestart", "outbound", "stopped", "header", "entered", "fallback", "rollback")
 SILENT = ("pool", "clear", "lend")
+LINE_BYTES = 96
 # The calls that tell a result. Field c of their records has a quality, or is not used.
 TELLING = ("stopped", "entered", "fallback")
 # How many parts a result and an answer have, the word and the quality among them.
@@ -77,7 +80,7 @@ def to_record(call, unused=0):
     if what == "entered":
         w, b, d = result_fields(call[1])
         return record(kind, b=b, c=c, d=d, e=call[2], w=w)
-    if what == "request":
+    if what == "arrive":
         _, token, direction, start, buffer = call[:5]
         y, d = ("b", 0) if start is None else ("t", start)
         if direction == "rx":
@@ -110,7 +113,7 @@ def to_record(call, unused=0):
         return record(kind, (n << 24) | (h << 16) | (t << 8) | f, (ack << 8) | spare, pan, length, hardware, z=implicit)
     if what == "lend":
         return record(kind, d=call[1])
-    if what == "dump":
+    if what in ("dump", "line", "withdraw"):
         return record(kind, call[1])
     return record(kind)
 
@@ -128,9 +131,9 @@ def from_record(text):
         return (what, a, bytes.fromhex("%016x%016x" % (d, e))[:b])
     if what == "lend":
         return (what, d)
-    if what == "dump":
+    if what in ("dump", "line", "withdraw"):
         return (what, a)
-    if what == "request":
+    if what == "arrive":
         start = d if y == "t" else None
         return (what, a, "tx", start, c, b, z) if x == "t" else (what, a, "rx", start, c)
     if what == "outbound":
@@ -182,7 +185,7 @@ def action_text(action):
         return NO_ACTION % ("b", action[3], action[2])
     if what == "ask":
         return NO_ACTION % ("q" if action[1] == "any" else "o", 0, 0)
-    return NO_ACTION % (what[0], 0, 0)
+    return NO_ACTION % ("-" if what == "nothing" else what[0], 0, 0)
 
 
 def answer_text(answer):
@@ -201,7 +204,7 @@ def answer_text(answer):
 
 
 def to_line(kind, refusal, action, answers):
-    """The line that driver_replay prints for a call of this kind: 122 characters."""
+    """The line that a replay program prints for a call of this kind: 122 characters."""
     if refusal:
         return "%s %02x - 00 0000 0 - 0000000000000000 - 0 %s %s\n" % (kind, refusal, NO_ANSWER, NO_ANSWER)
     texts = [answer_text(a) for a in answers] + [NO_ANSWER, NO_ANSWER]
@@ -231,6 +234,12 @@ def ack_line(pool, place):
     return bytes_line("a", place, bytes(pool[place:place + 3]))
 
 
+def line_line(line, place):
+    """What is printed of the waiting line's 96 bytes."""
+    data = bytes(line[place:place + 48])
+    return bytes_line("L", place, data + bytes(48 - len(data)))
+
+
 # ---------------------------------------------------------------- the oracle's language
 
 def start_word(start):
@@ -248,10 +257,10 @@ def to_script(call, quality=True):
     what = call[0]
     if what == "entered":
         return "entered %s %d" % (result_word(call[1], quality), call[2])
-    if what == "request":
+    if what == "arrive":
         if call[2] == "rx":
-            return "request %d rx %s %d" % (call[1], start_word(call[3]), call[4])
-        return "request %d tx %s %d %d %d" % (call[1], start_word(call[3]), call[4], call[5], call[6])
+            return "arrive %d rx %s %d" % (call[1], start_word(call[3]), call[4])
+        return "arrive %d tx %s %d %d %d" % (call[1], start_word(call[3]), call[4], call[5], call[6])
     if what == "pool":
         return "pool %d %d %s" % (call[1] // 144, call[1] % 144, call[2].hex())
     if what == "stopped":
@@ -267,9 +276,16 @@ def to_script(call, quality=True):
     if what == "start":
         text = "start %d %d %d %d %016x %04x %d %d %d" % call[1:10]
         return text if call[10] == 144 * call[1] else "%s pool %d" % (text, call[10])
-    if what in ("lend", "dump"):
+    if what in ("lend", "dump", "line", "withdraw"):
         return "%s %d" % (what, call[1])
     return what
+
+
+def to_oracle(call, handed=None):
+    """What the oracle is asked for a call: the request that its queue hands over, an arrival's tuple, or else the call itself."""
+    if handed is not None:
+        return to_script(handed).replace("arrive", "request", 1)
+    return "dump" if call[0] in ("dump", "ack") else to_script(call, quality=False)
 
 
 def word_start(word):
@@ -286,7 +302,8 @@ def word_result(word):
 
 
 def from_script(text):
-    """The tuples of a line of the script; a pool write of more than 16 bytes gives several."""
+    """The tuples of a line of the script; a pool write of more than 16 bytes gives several, and so does a request with fields, which
+    the oracle has: it arrives, is taken, and does not stay if it was not."""
     words = text.split("#")[0].split()
     if not words:
         return []
@@ -298,9 +315,11 @@ def from_script(text):
     if what == "pool":
         place, data = 144 * int(words[1]) + int(words[2]), bytes.fromhex(words[3])
         return pool_writes(place, data)
-    if what == "request":
+    if what == "arrive":
         head = (what, int(words[1]), words[2], word_start(words[3]), int(words[4]))
         return [head + (int(words[5]), int(words[6]))] if words[2] == "tx" else [head]
+    if what == "request" and len(words) > 1:
+        return from_script(text.replace("request", "arrive", 1)) + [("request",), ("withdraw", int(words[1]))]
     if what == "outbound":
         return [(what, word_start(words[1]), int(words[2]))]
     if what == "stopped":

@@ -1,11 +1,12 @@
-"""Random walks over the calls, seeded. A walk is a list of items that says what is called, what document 01's model replies,
-whether the oracle is asked too, in which listed class of differences the Rust's reply is another one, and what the oracle alone
-gets so that both sides go on from the same state."""
+"""Random walks over the calls, seeded. A walk is a list of items that says what is called, what the model replies, whether the
+oracle is asked too, which request its queue hands over, in which listed class of differences the Rust's reply is another one, and
+what the oracle alone gets so that both sides go on from the same state."""
 
 import random
 
-from model import FITS, SIZE, TAKES, TOP, Model, header_length, pans, suppressed, well_formed
-from records import CALLS, TELLING, pool_writes, quality_of, result_of
+from cases import Cases
+from model import CAPACITY, FITS, LINE_CALLS, NAMED, SIZE, TAKES, TOP, Model, header_length, pans, settings_refusal, suppressed, well_formed
+from records import CALLS, LINE_BYTES, TELLING, pool_writes, quality_of, result_of
 
 NUMBERS = (0, 1, 2, 9999, 10000, 1000000, 1 << 32, (1 << 63) - 1, 1 << 63, TOP - 10001, TOP - 10000, TOP - 9999, TOP - 1, TOP)
 TX_LENGTHS = (0, 1, 2, 3, 4, 13, 14, 15, 16, 17, 18, 19, 123, 124, 125, 126, 127, 65535)
@@ -13,6 +14,11 @@ RX_LENGTHS = (0, 1, 2, 3, 4, 5, 123, 124, 125, 126, 127, 65535)
 FRAME_LENGTHS = (0, 1, 5, 17, 18, 19, 20, 127, 128, 65535)
 # Well formed controls: short and extended, both, one, none; with and without bit 6, the number suppressed, a version each.
 GOOD = tuple(c for c in range(65536) if well_formed(c) and not c & 0x0298)
+# Of a walk's parts, in percent: calls on the line between others; arrivals that are Rx; arrivals at a time. In the last one four wait
+# and none that a wait allows.
+TRAFFIC = ((0, 45, 40), (0, 45, 40), (5, 45, 40), (20, 45, 40), (50, 45, 40), (50, 90, 90))
+# Waits that are reached less often than others: more of the calls in them are of any kind.
+RARE = ("ackrx", "acktx", "ask-window")
 # The classes of request E4, by the destination's mode.
 BROADCASTS = {2: "broadcast-not-acknowledged", 0: "implicit-broadcast-not-acknowledged"}
 # Destinations around request E4 that a comparison must meet; with bit 5 and a number, unless the name says otherwise.
@@ -43,9 +49,10 @@ UNANSWERED = tuple("%s by a %s%s" % (*by, where) for where in (", Entered", ", F
 
 class Item:
     """One record: the call, the model's reply, the wait before it, and how the Rust is compared."""
-    __slots__ = ("call", "reply", "wait", "asked", "group", "rust", "ours", "about", "unused")
+    __slots__ = ("call", "reply", "wait", "asked", "group", "rust", "ours", "about", "unused", "handed", "waiting", "cases")
 
-    def __init__(self, call, reply=None, wait=None, asked=False, group=None, rust=None, ours=True, about=None, unused=0):
+    def __init__(self, call, reply=None, wait=None, asked=False, group=None, rust=None, ours=True, about=None, unused=0,
+                 handed=None, waiting=None, cases=()):
         self.call = call
         self.reply = reply      # (refusal, action, answers), or the bytes that a dump shows
         self.wait = wait
@@ -55,6 +62,9 @@ class Item:
         self.ours = ours        # our program gets it
         self.about = about      # which of DESTINATIONS it is about, or None
         self.unused = unused    # what field c of its record holds where it is not used
+        self.handed = handed    # the arrival that the oracle gets as its request, or None: the call itself
+        self.waiting = waiting  # how many wait in the line before it
+        self.cases = cases      # which of the CASES of request E1 it is
 
 
 def qualities(items):
@@ -117,6 +127,8 @@ class Walk:
         self.items = []
         self.calls = 0
         self.classes = classes      # whether calls whose replies differ are made (the class damaged-ack-off is always there)
+        self.cases = Cases()
+        self.busy, self.rx, self.timed = TRAFFIC[0]
         self.over = False           # the two states are no longer the same
 
     # ---- choices
@@ -154,6 +166,13 @@ class Walk:
         for place in range(0, 144 * m.n, 48):
             self.put(("dump", place), reply=bytes(m.pool[place:place + 48]), asked=place == 0)
 
+    def show_line(self, place):
+        self.put(("line", place), reply=self.model.line_bytes()[place:place + 48])
+
+    def dump_line(self):
+        for place in range(0, LINE_BYTES, 48):
+            self.show_line(place)
+
     def dump_ack(self, group=None, rust=None):
         m = self.model
         at = m.frame(m.ack)
@@ -163,7 +182,7 @@ class Walk:
 
     def settings(self):
         r = self.random
-        n = r.choice((3, 4, 4, 5, 5, 6, 6, 8)) if self.chance(95) else r.choice((9, 31, 32))
+        n = r.choice((3, 4, 5, 6, 7, 8, 8, 9)) if self.chance(95) else r.choice((10, 31, 32))
         ack, spare = r.sample(range(n), 2)
         hardware = 0x0102030405060708 if self.chance(30) else r.getrandbits(64)
         if self.chance(12):
@@ -176,13 +195,19 @@ class Walk:
         call = self.settings()
         self.model.other(("clear",))
         self.put(("clear",))
-        reply = self.model.start(call)
-        assert reply[0] == 0
-        self.put(call, reply=reply, wait="start", asked=True)
-        self.calls += 1
+        self.note_start(call, asked=True)
+        assert self.items[-1].reply[0] == 0
         self.over = False
+        self.busy, self.rx, self.timed = self.random.choice(TRAFFIC)
+        if self.items[-1].cases and self.chance(20):
+            self.dump_line()
         if self.chance(3):
             self.spoil_ack()
+
+    def note_start(self, call, **rest):
+        cases = self.cases.of(self.model, call, settings_refusal(call, call[10]))
+        self.put(call, reply=self.model.start(call), wait="start", cases=cases, **rest)
+        self.calls += 1
 
     def spoil_ack(self):
         """The host writes into the ACK buffer's frame."""
@@ -223,11 +248,11 @@ class Walk:
             group = "start-count" if not 3 <= n <= 32 else "start-own-buffers"
             rust = (0, ("idle",), ())
             self.over = True
-        reply = self.model.start(call)
-        if reply[0] == 0:
+        if not settings_refusal(call, length):
             return
-        self.put(call, reply=reply, wait="start", asked=asked, group=group, rust=rust)
-        self.calls += 1
+        self.note_start(call, asked=asked, group=group, rust=rust)
+        if self.items[-1].cases and self.chance(20) and not self.over:
+            self.dump_line()
 
     # ---- frames
 
@@ -312,12 +337,13 @@ class Walk:
         held = self.model.held()
         return [b for b in range(self.model.n) if b not in held]
 
-    def any_request(self):
-        """A request with a token, a buffer, a length and a start that need not be allowed."""
+    def any_arrival(self):
+        """An arrival with a token, a buffer, a length and a start that need not be allowed."""
         m, r = self.model, self.random
         token, free = self.token(), self.free()
-        if m.open and self.chance(20):
-            token = r.choice(m.open).token
+        known = [q.token for q in m.open + m.line + self.cases.withdrawn]
+        if known and self.chance(30):
+            token = r.choice(known)
         way = r.random()
         if way < 0.15 or not free:
             buffer = r.choice(sorted(m.held()))
@@ -327,20 +353,47 @@ class Walk:
             buffer = r.choice(free)
         if self.chance(60):
             length = r.choice(TX_LENGTHS) if self.chance(60) else r.randrange(3, 128 - m.f)
-            return ("request", token, "tx", self.start_time(), buffer, length, r.randrange(2))
-        return ("request", token, "rx", self.start_time(), buffer)
+            return ("arrive", token, "tx", self.start_time(), buffer, length, r.randrange(2))
+        return ("arrive", token, "rx", self.start_time(), buffer)
+
+    def any_withdrawal(self):
+        m, r = self.model, self.random
+        known = [q.token for q in m.open + m.line + m.line + self.cases.withdrawn[-2:]]
+        return ("withdraw", r.choice(known) if known and self.chance(75) else self.token())
+
+    def any_seen(self):
+        """OutboundSeen with any start and flag, or with one thing wrong of what the line's earliest Tx has."""
+        m, r = self.model, self.random
+        q = m.earliest_tx()
+        if q is None or self.chance(30):
+            return ("outbound", self.start_time(), r.randrange(2))
+        way = r.randrange(4)
+        if way == 0:
+            return ("outbound", q.start, 1 - q.check)
+        if way == 1:
+            return ("outbound", self.time() if q.start is None or self.chance(50) else None, q.check)
+        seen = r.choice([p for p in m.line if p.direction == "tx"])
+        return ("outbound", seen.start, seen.check)
 
     def any_call(self):
         r, wait = self.random, self.model.wait
         what = r.choice(CALLS)
         if wait in TAKES and self.chance(40):
-            what = "request"
+            what = r.choice(("arrive", "arrive", "request", "none"))
+        elif wait == "listening" and self.chance(15):
+            what = "outbound"
+        elif wait in NAMED and self.chance(25):
+            what = "withdraw"
+        elif len(self.model.line) == CAPACITY and self.chance(25):
+            what = "arrive"
         elif wait == "ackrx-off" and self.chance(15):
             what = "rollback"
-        if what == "request":
-            return self.any_request()
+        if what == "arrive":
+            return self.any_arrival()
+        if what == "withdraw":
+            return self.any_withdrawal()
         if what == "outbound":
-            return (what, self.start_time(), r.randrange(2))
+            return self.any_seen()
         if what == "stopped":
             how = r.choice(("frame", "ended", "failed"))
             return (what, how, self.rx_result()) if how == "ended" else (what, how)
@@ -352,25 +405,25 @@ class Walk:
             return (what, self.result(("off", "sent", "frame", "ended", "crc")), self.cause())
         return (what,)
 
-    def fitting_request(self):
+    def fitting_arrival(self, allowed=False, direction=None):
+        """An arrival that is accepted, where so wanted one that the wait allows, or of this direction; None if there is no room."""
         m, r = self.model, self.random
         free = self.free()
-        if not free:
+        if not free or len(m.line) == CAPACITY:
             return None
         token = self.token()
-        while any(q.token == token for q in m.open):
+        while any(q.token == token for q in m.open + m.line):
             token = self.token()
         buffer = r.choice(free)
-        wait = m.wait
-        rx = wait != "ask-window" and self.chance(45)
-        timed = wait == "idle" or (not rx and wait not in ("ask-tx", "ask-acktx"))
-        start = self.start_time() if timed else None
+        rx = direction == "rx" if direction else self.chance(self.rx)
+        timed = not allowed or m.wait == "idle" or (not rx and m.wait not in ("ask-tx", "ask-acktx"))
+        start = self.start_time(self.timed) if timed else None
         if rx:
-            return ("request", token, "rx", start, buffer)
+            return ("arrive", token, "rx", start, buffer)
         if self.chance(80):
             self.write(m.frame(buffer), self.tx_bytes())
         length = r.choice((3, 18 - m.f, 19 - m.f, 127 - m.f)) if self.chance(60) else r.randrange(3, 128 - m.f)
-        return ("request", token, "tx", start, buffer, length, r.randrange(2))
+        return ("arrive", token, "tx", start, buffer, length, r.randrange(2))
 
     def arrived(self, exact):
         r = self.random
@@ -382,6 +435,26 @@ class Walk:
             return r.choice((top, top - 1, r.randrange(top + 1), 30))
         return r.choice((0, 1, 2, 3, 125, 126, 127, 65535, top + 1))
 
+    def line_call(self):
+        """An arrival or a withdrawal, mostly accepted; None if there is none."""
+        m = self.model
+        if not m.line or self.chance(75):
+            return self.fitting_arrival()
+        return ("withdraw", self.random.choice(m.line).token)
+
+    def fitting_ask(self, what, fits):
+        """Request or None; or what has to arrive first."""
+        if self.model.leaving():
+            return ("request",)
+        call = ("none",) if what == "none" else self.fitting_arrival(allowed=True)
+        return call if call or "none" not in fits else ("none",)
+
+    def fitting_seen(self):
+        q = self.model.earliest_tx()
+        if q is None:
+            return self.fitting_arrival(direction="tx") or ("framestart",)
+        return ("outbound", q.start, q.check)
+
     def fitting_call(self):
         """A call that fits the wait, mostly accepted; None if there is none."""
         m, r = self.model, self.random
@@ -389,11 +462,10 @@ class Walk:
         weights = {"none": 25, "rollback": 30, "fallback": 30, "framestart": 70}
         what = r.choices(tuple(fits), [weights.get(w, 60) for w in fits])[0]
         kinds = fits[what]
-        if what == "request":
-            call = self.fitting_request()
-            return call if call or "none" not in fits else ("none",)
+        if what in ("request", "none"):
+            return self.fitting_ask(what, fits)
         if what == "outbound":
-            return (what, self.start_time(), r.randrange(2))
+            return self.fitting_seen()
         if what == "stopped":
             how = r.choice(kinds)
             return (what, how, self.rx_result()) if how == "ended" else (what, how)
@@ -424,20 +496,39 @@ class Walk:
 
     # ---- what the Rust does
 
-    def is_asked(self, call, refusal):
-        """Whether the oracle is asked too: not where the Rust does not look at what is refused."""
-        if refusal == 2 or refusal == 6:
-            return False
-        if refusal == 7:
-            return call[4] >= self.model.n
-        if refusal == 8:
-            return call[5] not in (1, 2)
-        return True
+    def is_asked(self, call, refusal, handed):
+        """Whether the oracle is asked too: not where the Rust does not look at what is refused, nor where only its queue could have
+        it. Its queue never says None while it holds a request that can be taken, and shows the Tx that it holds."""
+        m, what = self.model, call[0]
+        if what in LINE_CALLS or what == "request":
+            return refusal != 2 and handed is not None
+        if what == "none" and m.leaving() or what == "outbound" and m.wait == "listening":
+            return not refusal
+        return refusal != 2
 
-    def difference(self, call):
+    def handed(self, call, refusal):
+        """The arrival that the oracle gets as its request: the one that leaves our line, or what would be handed over first and is
+        not waited for or not allowed; and an arrival that is refused by what the Rust too refuses of a request that is handed over."""
+        m, what = self.model, call[0]
+        if what == "request":
+            q = (m.leaving() if not refusal else None) or (m.line[0] if m.line else None)
+            return q.call() if q else None
+        if what == "arrive" and m.wait in TAKES:
+            if refusal == 7 and call[4] >= m.n or refusal == 8 and call[5] not in (1, 2):
+                return call
+        return None
+
+    def passed(self, call, refusal):
+        """The earliest arrival, at an accepted call in a wait that does not allow it: what the Rust's queue would hand over first."""
+        m = self.model
+        if refusal or call[0] not in ("request", "none") or not m.line or m.allows(m.line[0]):
+            return None
+        return m.line[0]
+
+    def difference(self, call, refusal):
         """The class in which the Rust's reply is another one, before the call is made."""
         m, what = self.model, call[0]
-        if what == "none" and m.wait == "ask-ack":
+        if what == "none" and m.wait == "ask-ack" and not refusal:
             return "damaged-ack-off"
         if what == "rollback" and m.wait == "ackrx-off":
             return "damaged-ack-rollback"
@@ -445,11 +536,11 @@ class Walk:
             if call[1] > 127 - m.f:
                 return "header-arrived"
             _, number, broadcast = m.for_us(call[1])
-            if broadcast and number is not None and not m.refusal(call):
+            if broadcast and number is not None and not refusal:
                 return BROADCASTS[m.destination(m.data[0].buffer, call[1])[2]]
         if what == "entered" and m.wait.endswith("-tx") and m.wait != "ask-tx":
             q = m.data[1]
-            if q.number is not None and q.number_in_rust is None and not m.refusal(call):
+            if q.number is not None and q.number_in_rust is None and not refusal:
                 return "suppressed-number"
         return None
 
@@ -457,10 +548,11 @@ class Walk:
         """Which of DESTINATIONS an accepted call is about, or None."""
         m = self.model
         received = call[0] == "header"
+        q = m.leaving() if call[0] == "request" else None
         if received:
             facts = m.destination(m.data[0].buffer, call[1])
         else:
-            facts = m.destination(call[4], call[5]) if call[0] == "request" and call[2] == "tx" else None
+            facts = m.destination(q.buffer, q.length) if q and q.direction == "tx" else None
         hardware, own_pan, implicit = m.set[5:8]
         if facts is None or received and facts[1] not in (None, own_pan, 0xFFFF):
             return None
@@ -503,10 +595,12 @@ class Walk:
     def note(self, call, **rest):
         """Makes a call on the model, and notes it with what is expected of the Rust. Returns the ACK frame before it."""
         m = self.model
-        wait = m.wait
-        group = self.difference(call)
+        wait, refusal = m.wait, m.refusal(call)
+        group = self.difference(call, refusal)
         rust = self.rust_reply(group, call, None) if group == "header-arrived" else None
-        about = None if m.refusal(call) else self.destination(call)
+        about = None if refusal else self.destination(call)
+        handed, passed = self.handed(call, refusal), self.passed(call, refusal)
+        rest.update(asked=self.is_asked(call, refusal, handed), handed=handed, waiting=len(m.line), cases=self.cases.of(m, call, refusal))
         at = m.frame(m.ack)
         ack_before = bytes(m.pool[at:at + 3])
         broadcast = group in BROADCASTS.values()
@@ -514,16 +608,25 @@ class Walk:
             # The Rust is asked what it does with the same frame without bit 5. Then the replies are the same.
             group = None
             self.rust_bit_5(0)
+        if passed and self.classes:
+            self.hand_over_first(passed)
         reply = m.step(call)
         if group and rust is None:
             rust = self.rust_reply(group, call, reply)
-        self.put(call, reply=reply, wait=wait, asked=self.is_asked(call, reply[0]), group=group, rust=rust, about=about, **rest)
+        self.put(call, reply=reply, wait=wait, group=group, rust=rust, about=about, **rest)
         self.calls += 1
         if broadcast:
             if group:
                 self.bring_back(call, reply, at, ack_before)
             self.rust_bit_5(1)
         return ack_before
+
+    def hand_over_first(self, q):
+        """The Rust alone gets what its queue would hand over first, panics, and goes on as before. In the ask after a window it asks
+        for an outbound request: an Rx is none, and its queue passes it as the line does."""
+        refused = (9, None, ())
+        group = None if self.model.wait == "ask-window" else "queue-timed-" + q.direction
+        self.put(("request",), reply=refused, asked=True, ours=False, group=group, rust=refused, handed=q.call())
 
     def bring_back(self, call, reply, at, ack_before):
         """The Rust has begun the ACK turn of a broadcast. Rollback takes it back to listening, its ACK frame is made what it was,
@@ -547,16 +650,19 @@ class Walk:
 
     def make(self, call):
         m = self.model
-        group = self.difference(call)
+        refusal = m.refusal(call)
+        group = self.difference(call, refusal)
         broadcast = group in BROADCASTS.values()
         diverges = group not in (None, "damaged-ack-off") and not broadcast
         if diverges and not self.classes:
             return
         ack_before = self.note(call)
         self.over = diverges
+        if not diverges and self.chance(25 if call[0] in LINE_CALLS or call[0] == "request" else 2):
+            self.dump_line()
         if broadcast and not self.classes and self.chance(50):
             self.dump_ack()
-        if diverges or broadcast or self.items[-1].reply[0] or m.wait != "ack-turn":
+        if diverges or broadcast or refusal or call[0] != "header" or m.wait != "ack-turn":
             return
         at = m.frame(m.ack)
         if ack_before[1] & 1:
@@ -580,13 +686,25 @@ class Walk:
         self.put(("lend", right))
         m.other(("lend", right))
 
+    def write_frames(self):
+        """What is written after leaving changes no noted number; what is written before does."""
+        m, r = self.model, self.random
+        if self.chance(3) and m.open:
+            self.write(m.frame(r.choice(m.open).buffer) + 2, bytes([r.getrandbits(8)]))
+        if self.chance(10) and m.line:
+            place = m.frame(r.choice(m.line).buffer)
+            if self.chance(50):
+                self.write(place + 2, bytes([r.getrandbits(8)]))
+            else:
+                self.write(place, self.tx_bytes())
+
     def segment(self, length):
         """A start and up to so many calls; it ends early where the states part or nothing fits."""
         self.begin()
         stop = self.calls + length
         while self.calls < stop and not self.over:
             m = self.model
-            if self.chance(30):
+            if self.chance(50 if m.wait.startswith(RARE) else 30):
                 if self.chance(5):
                     self.wrong_pool()
                 elif self.chance(4):
@@ -596,15 +714,14 @@ class Walk:
                 else:
                     self.make(self.any_call())
                 continue
-            call = self.fitting_call()
+            busy = 2 * self.busy if m.wait.endswith("-off") else self.busy
+            call = (self.chance(busy) and self.line_call()) or self.fitting_call()
             if call is None:
                 break
-            if self.chance(3) and m.open:
-                # What is written after acceptance changes no noted number.
-                q = self.random.choice(m.open)
-                self.write(m.frame(q.buffer) + 2, bytes([self.random.getrandbits(8)]))
+            self.write_frames()
             self.make(call)
         if not self.over:
+            self.dump_line()
             self.dump_pool()
 
     def run(self, calls):

@@ -1,6 +1,6 @@
 """Compares the declarations of the exported functions: include/widosha.h, the sources of crates/driver_c and crates/frame_c,
 host/src/ffi.rs and the tables of docs/LAYOUTS.md. Names, argument names, their order, widths and results have to agree, and no
-function may be missing anywhere. So do whether a slice is only read, the four lengths, and the three answers of the check of a
+function may be missing anywhere. So do whether a slice is only read, the five lengths, and the three answers of the check of a
 checksum.
 
     compare.py              compares; a difference is printed and ends with 1
@@ -15,12 +15,13 @@ SOURCES = {
     "host": "host/src/ffi.rs",
     "table": "docs/LAYOUTS.md",
 }
-# What docs/LAYOUTS.md says of every function in its first table.
-SLICES = [("state", "slice"), ("reply", "slice"), ("pool", "slice")]
+# What docs/LAYOUTS.md says of every function in its first table: its slices, in order.
+SLICES = r"then four slices in this\s+order: (the state [^.]*)\. "
+SLICE = r"the (\w+)\s+\([^)]*\)"
 WIDTHS = ("u8", "u16", "u32", "u64")
 # In Rattle `result` is what a function returns, so no parameter has that name, and the sources have another.
 IN_SOURCE = {"res": "result"}
-LENGTHS = ("STATE", "REPLY", "BUFFER", "INFO")
+LENGTHS = ("STATE", "LINE", "REPLY", "BUFFER", "INFO")
 ANSWERS = ("YES", "NO", "REFUSED")
 # Where a text states a number; docs/LAYOUTS.md does so in two places, but for the length of a buffer.
 STATED = {
@@ -34,6 +35,7 @@ STATED = {
     },
     "table": {
         "STATE_LENGTH": [r"the state\s+\((\d+)\s+bytes\)", r"## The state's (\d+) bytes\n"],
+        "LINE_LENGTH": [r"the line\s+\((\d+)\s+bytes\)", r"## The line's (\d+) bytes\n"],
         "REPLY_LENGTH": [r"the reply\s+\((\d+)\s+bytes\)", r"## The reply's (\d+) bytes\n"],
         "BUFFER_LENGTH": [r"the pool\s+\((\d+)\s+×\s+n\s+bytes\)"],
         "INFO_LENGTH": [r"the facts\s+\((\d+)\s+bytes\)", r"## The facts' (\d+) bytes\n"],
@@ -122,7 +124,7 @@ def read_host(text):
 def read_table(text):
     """A row of the first table gives the numbers; slices and result are what the text above it says of all its functions. A row of
     the second gives slices and result."""
-    shared = re.search(r"three slices after its numbers, and returns (\d+ bits):\n", text)
+    shared = re.search(r"four slices after its numbers, and returns (\d+ bits):\n", text)
     if not shared:
         raise Unreadable("no sentence about the slices and results of the first table")
     found = []
@@ -131,6 +133,16 @@ def read_table(text):
         result = Piece(match.group(3), match.start(3)) if match.group(3) else Piece(shared.group(1), shared.start(1))
         found.append(Declaration(Piece(match.group(1), match.start(1)), parameters, result))
     expect_all(found, len(re.findall(r"^\| `widosha_", text, flags=re.M)))
+    return found
+
+
+def slices_of(text):
+    """The four slices of the sentence that docs/LAYOUTS.md has of them, as matches with their places in the text."""
+    sentence = re.search(SLICES, text)
+    found = list(re.finditer(SLICE, text[: sentence.end(1)])) if sentence else []
+    found = [each for each in found if each.start() >= sentence.start(1)]
+    if len(found) != 4:
+        raise Unreadable("no sentence about the four slices")
     return found
 
 
@@ -210,7 +222,7 @@ def signatures(which, text):
         name = declaration.name.text
         arguments = fold([FORMS[which](parameter.text) for parameter in declaration.parameters])
         if which == "table" and not any("slice" in kind for _, kind in arguments):
-            arguments += SLICES
+            arguments += [(piece.group(1), "slice") for piece in slices_of(text)]
         if name in found:
             raise Unreadable("%s is declared twice" % name)
         found[name] = (arguments, result_of(declaration.result.text))
@@ -331,11 +343,24 @@ def mutations_of_numbers(which, text):
         yield "one more beside %s" % match.group(1), replaced(text, end, end, one_more)
 
 
+def mutations_of_slices(text):
+    """The sentence about the slices with one of them missing, twice, of another name or behind the next."""
+    found = slices_of(text)
+    for this, after in zip(found, found[1:] + [None]):
+        name = this.group(1)
+        yield "slice %s twice" % name, replaced(text, this.end(), this.end(), ", " + this.group())
+        yield "slice %s renamed" % name, replaced(text, this.start(1), this.end(1), name + "x")
+        if after:
+            swapped = after.group() + text[this.end():after.start()] + this.group()
+            yield "slice %s behind the next" % name, replaced(text, this.start(), after.end(), swapped)
+            yield "slice %s dropped" % name, replaced(text, this.start(), after.start(), "")
+
+
 def self_test(texts):
     tried, missed = 0, []
     for which in SOURCES:
         text = texts[which]
-        mutated = list(mutations_of_numbers(which, text))
+        mutated = list(mutations_of_numbers(which, text)) + (list(mutations_of_slices(text)) if which == "table" else [])
         for declaration in READERS[which](text):
             for what, changed in mutations_of(which, text, declaration):
                 mutated.append(("%s: %s" % (declaration.name.text, what), changed))
@@ -363,7 +388,7 @@ def main():
     if sys.argv[1:] == ["--self-test"]:
         tried, missed = self_test(texts)
         print("\n".join("not found: " + each for each in missed) or "each of %d changes is found" % tried)
-        sys.exit(1 if missed or tried < 1400 else 0)
+        sys.exit(1 if missed or tried < 1900 else 0)
     functions = signatures("header", texts["header"])
     print("%d functions and %d numbers agree in %s" % (len(functions), len(STATED["header"]), ", ".join(SOURCES.values())))
 

@@ -69,12 +69,7 @@ taken_of set pool a q =
 
 -- "Request": 6 to 9, then what it is to enter, out of what is left
 unfoldable pub request_of : State → List ℕ → Asked → Request → Move
-request_of s pool a q =
-    let d = previous_task_of s.set a in
-    guarded_of s (request_refusal s a q)
-    (accepted_of s.set (Wait.Entering (Transition.Request d.left (next_of s.set pool q q.task)))
-    (request_action q d.spacing q.task)
-    (answers_of d.owed))
+request_of s pool a q = guarded_of s (request_refusal s a q) (taken_of s.set pool a q)
 
 -- going off
 abbrev pub to_off : Settings → Left → Bool → Move

@@ -1,32 +1,44 @@
--- What the book's invariant says of a state: its buffers and its open tokens are different; so it is valid.
+-- What the book's invariant says of a state and a line: buffers and open tokens are different; so the state is valid, and the line fits it.
 -- Assumes nothing.
 use Rattle.std.proofs.Common.{Option, Some, None, ℕ}
 use Prim.Native.Nat.{ℕ, ◌+◌, ◌*◌, ◌<◌, ◌≤◌}
-use mathlib.Core.Path.{◌≡◌, refl, ap}
+use mathlib.Core.Path.{◌≡◌, refl, ◌∙◌, ap}
 use mathlib.Core.Bool.{true, not, ◌&&◌}
 use mathlib.Core.List.{List, [], ◌∷◌, ◌++◌}
 use mathlib.Core.Logic.{◌⊎◌, inl, inr}
 use lib.Dec.{eqb}
+use lib.ListN.{length}
 use native.Mathlib.Omega.{arith}
-use borrow.Author.Tests.{eq-eqb, ne_eqb, lt-ltb}
+use borrow.Author.Tests.{eq-eqb, ne_eqb, lt-ltb, lt-leb}
 use Rattle.radio_frame.specs.declared.Settings.{Settings}
 use Rattle.radio_frame.specs.Settings.{buffer_length, settings_refusal}
 use Rattle.radio_frame.proofs.Laws.{zero_if_fit}
 use Rattle.tasks.specs.declared.Asked.{Asked}
 use Rattle.tasks.specs.declared.Left.{Left}
 use Rattle.tasks.specs.declared.Next.{Next}
+use Rattle.tasks.specs.declared.Request.{Request}
 use Rattle.tasks.specs.declared.State.{State}
 use Rattle.tasks.specs.declared.Stop.{Stop}
+use Rattle.tasks.specs.declared.Task.{Task}
 use Rattle.tasks.specs.declared.Transition.{Transition}
 use Rattle.tasks.specs.declared.Wait.{Wait}
 use Rattle.tasks.specs.declared.Slot.{Slot}
 use Rattle.tasks.specs.Pending.{left_slot, next_slot, asked_slot, stop_slot, transition_slots, pending_of}
+use Rattle.requests.specs.Requests.{tx_length_unfit}
+use Rattle.entered.specs.Entered.{with_spare}
 use Rattle.engine.specs.Book.{Book}
 use Rattle.engine.specs.Agreement.{left_standing, next_standing, wait_standing}
-use Rattle.engine.specs.BookClaims.{one, count}
+use Rattle.engine.specs.BookClaims.{one, count, tokens}
 use Rattle.engine.proofs.Count.{one_self}
 use Rattle.engine.proofs.Standing.{numbers, token, buffer, own}
 use Rattle.engine.proofs.Kept.{Kept}
+use Rattle.service.specs.LineBook.{Arrival, LineBook}
+use Rattle.service.specs.LineClaims.{waiting_tokens, waiting_buffers}
+use Rattle.service.specs.Lists.{requests_in}
+use Rattle.service.proofs.Arrivals.{length_is, token_waits, buffer_waits}
+use Rattle.service.proofs.Kept.{AllFit, LineKept, has_tokens, token_by_book, buffer_by_book, none_has}
+use Rattle.line_bytes.specs.Valid.{line_fits}
+use Rattle.line_bytes.proofs.InWords.{passes_fits}
 use Rattle.wait_parts.specs.Parts.{asked_part, left_part, tx_part, next_part, stop_part, transition_parts, wait_parts_of}
 use Rattle.state_bytes.specs.Valid.{slot_fits, differs_from, slots_differ, valid_state, StateFits}
 use Rattle.byte_calls.proofs.Ranges.{PartIn, WaitIn, SettingsIn, StateIn}
@@ -203,3 +215,42 @@ fits s S =
       case = (S.wait.0.0, omega (arith, S.wait.0.1), S.wait.0.2, S.wait.0.3, S.wait.0.4);
       next = (S.wait.1.0, omega (arith, S.wait.1.1), S.wait.1.2, S.wait.1.3, S.wait.1.4);
     }
+
+-- ---- and a line that the book is kept of fits the state
+
+module _ (s : State) (qs : List Request) (b : LineBook) (K : LineKept s qs b) where
+  same_length : (task : Task) → tx_length_unfit s.set task ≡ tx_length_unfit b.book.set task
+  unfolding tx_length_unfit
+  same_length task = ap (λ (set : Settings). tx_length_unfit set task) K.kept.settings ∙ go task
+    where
+      go : (x : Task) → tx_length_unfit (with_spare b.book.set s.set.spare_buffer) x ≡ tx_length_unfit b.book.set x
+      go (Task.Tx l cca) = refl
+      go Task.Rx = refl
+
+  same_count : s.set.count ≡ b.book.set.count
+  same_count = ap (λ (set : Settings). set.count) K.kept.settings
+
+  all_fit : (rest : List Arrival) → AllFit b.book.set rest → ((x : ℕ) → count x b.book.held + count x (waiting_buffers rest) ≤ 1)
+      → ((t : ℕ) → count t (tokens b.book.requests) + count t (waiting_tokens rest) ≤ 1) → line_fits s (requests_in rest) ≡ true
+  unfolding line_fits
+  all_fit [] F B T = refl
+  all_fit (a ∷ rest) F B T =
+      let q = a.request in
+      let x = q.buffer in
+      let t = q.token in
+      let below : x < s.set.count = rw same_count F.0.buffer in
+      let p = passes_fits s q (requests_in rest) (
+        token_by_book s b.book K.kept t ∙ has_tokens t b.book.requests ∙ none_has t (tokens b.book.requests) (omega (arith, T t, one_self t)),
+        lt-leb s.set.count x below,
+        buffer_by_book s b.book K.kept x ∙ none_has x b.book.held (omega (arith, B x, one_self x)),
+        buffer_waits x rest ∙ none_has x (waiting_buffers rest) (omega (arith, B x, one_self x)),
+        same_length q.task ∙ F.0.length_fits,
+        token_waits t rest ∙ none_has t (waiting_tokens rest) (omega (arith, T t, one_self t)),
+      ) in
+      rw (p, all_fit rest F.1 (λ y. omega (arith, B y)) (λ u. omega (arith, T u)))
+
+  pub line_valid : line_fits s qs ≡ true
+  line_valid = rw K.line (all_fit b.waiting K.fit K.once K.one_each)
+
+  pub at_most_four : length qs ≤ 4
+  at_most_four = rw (K.line, length_is b.waiting) K.four

@@ -1,10 +1,10 @@
 -- The link quality in the exported form: each answer of an accepted call carries what was told in it, and another quality changes no
 -- other byte.
 -- Assumes nothing.
-use Prim.Native.Nat.{ℕ, zero, suc, ◌<◌}
-use mathlib.Core.Path.{◌≡◌, refl, ◌∙◌, ap}
+use Prim.Native.Nat.{ℕ, zero, suc, ◌<◌, ◌≤◌}
+use mathlib.Core.Path.{◌≡◌, refl, sym, ◌∙◌, ap}
 use mathlib.Core.Bool.{Bool, true, false, true≢false, cond}
-use mathlib.Core.List.{List}
+use mathlib.Core.List.{List, [], ◌∷◌}
 use lib.Dec.{ltb, eqb}
 use lib.ListN.{length, get_or-map}
 use native.Mathlib.Omega.{arith}
@@ -14,21 +14,30 @@ use Rattle.tasks.specs.declared.Answers.{Answers}
 use Rattle.tasks.specs.declared.Call.{Call}
 use Rattle.tasks.specs.declared.Cause.{Cause}
 use Rattle.tasks.specs.declared.Reply.{Reply}
+use Rattle.tasks.specs.declared.Request.{Request}
 use Rattle.tasks.specs.declared.Response.{Response}
 use Rattle.tasks.specs.declared.RxResult.{RxResult}
 use Rattle.tasks.specs.declared.State.{State}
 use Rattle.tasks.specs.declared.StopResult.{StopResult}
 use Rattle.tasks.specs.declared.TaskResult.{TaskResult}
 use Rattle.tasks.specs.declared.Timestamp.{Timestamp}
-use Rattle.tasks.specs.Quality.{no_quality, link_quality, response_quality}
-use Rattle.engine.specs.Step.{Outcome}
+use Rattle.tasks.specs.declared.Wait.{Wait}
+use Rattle.tasks.specs.Quality.{Quality, no_quality, link_quality, response_quality}
+use Rattle.std.specs.Prelude.{Option, Some, None}
+use Rattle.requests.specs.Requests.{allowed_of}
 use Rattle.engine.specs.Book.{answers_transmit}
-use Rattle.engine.specs.Step.{step_of, step_pool}
-use Rattle.engine.specs.Reasons.{left_quality, told_quality, CarriesTold, AllCarryTold, EveryQualityIsTold}
-use Rattle.engine.specs.Qualities.{task_with, stop_with, call_with, response_with, answers_with_of, outcome_with, QualityDecidesNothing}
-use Rattle.engine.proofs.Reasons.{every_quality_is_told}
-use Rattle.engine.proofs.Qualities.{quality_decides_nothing}
+use Rattle.engine.specs.Refusals.{no_reply}
+use Rattle.engine.specs.Reasons.{left_quality, told_quality, CarriesTold, AllCarryTold}
+use Rattle.engine.specs.Qualities.{task_with, stop_with, response_with, answers_with_of}
+use Rattle.waiting_line.specs.Line.{allows, earliest_of}
+use Rattle.service.specs.declared.ServiceCall.{ServiceCall}
+use Rattle.service.specs.Service.{Served, service_of}
+use Rattle.service.specs.Heard.{request_found, request_heard, heard, EveryCallHeard}
+use Rattle.service.specs.Qualities.{service_call_with, served_with, QualityDecidesNoCall}
+use Rattle.service.proofs.Heard.{every_call_heard}
+use Rattle.service.proofs.Qualities.{quality_decides_no_call}
 use Rattle.state_bytes.specs.Layout.{state_at}
+use Rattle.line_bytes.specs.Layout.{line_at}
 use Rattle.std.proofs.lemmas.Bool.{and_parts}
 use Rattle.reply_bytes.specs.declared.ActionFields.{ActionFields}
 use Rattle.reply_bytes.specs.declared.AnswerFields.{AnswerFields}
@@ -37,8 +46,8 @@ use Rattle.reply_bytes.specs.Reply.{action_fields, scheduling_fields, cause_fiel
 use Rattle.call_codes.specs.declared.ExportedCall.{ExportedCall}
 use Rattle.call_codes.specs.Codes.{stop_table, stop_of, result_table, result_of, cause_table, cause_of, known, known_of, call_of, with_quality, uses_quality, quality_used}
 use Rattle.call_codes.proofs.Qualities.{unused_quality_ignored}
-use Rattle.outcomes.specs.Outcomes.{unknown_of, made_outcome, made_pool}
-use Rattle.byte_calls.specs.Calls.{call_result, call_state, call_reply, call_pool, told_number, has_quality, answers_receive, CarriesQuality, but_qualities, QualityApart, QualityChangesNoOtherByte}
+use Rattle.outcomes.specs.Outcomes.{unknown_of, made_of}
+use Rattle.byte_calls.specs.Calls.{call_result, call_state, call_line, call_reply, call_pool, told_number, has_quality, answers_receive, CarriesQuality, but_qualities, QualityApart, QualityChangesNoOtherByte}
 
 -- ---- Each answer carries what was told
 
@@ -53,18 +62,65 @@ result_told length time k (suc (suc (suc (suc zero)))) h = refl
 result_told length time k (suc (suc (suc (suc (suc n))))) h =
     let z : suc (suc (suc (suc (suc n)))) < 5 = ltb-true _ _ h in absurd (omega arith)
 
-call_told : (x : ExportedCall) → known_of x ≡ true → told_quality (call_of x) ≡ told_number x
-unfolding known_of call_of
-call_told (ExportedCall.Request token direction start time buffer length cca) h = refl
-call_told ExportedCall.None h = refl
-call_told ExportedCall.FrameStart h = refl
-call_told (ExportedCall.OutboundSeen start time cca) h = refl
-call_told (ExportedCall.Stopped outcome length time k) h = refl
-call_told (ExportedCall.Header arrived length) h = refl
-call_told (ExportedCall.Entered result length time entry k) h = result_told length time k result h
-call_told (ExportedCall.Fallback result length time cause causeTime k) h =
-    result_told length time k result ((and_parts (ltb result 5) (known (cause_table causeTime) cause) h).0)
-call_told ExportedCall.Rollback h = refl
+-- the quality that the call which the wait is told tells, or none
+abbrev heard_quality : List Call → Quality
+heard_quality [] = no_quality
+heard_quality (d ∷ ds) = told_quality d
+
+module _ (s : State) (qs : List Request) where
+  found_told : (f : Option Request) → heard_quality (request_found f) ≡ no_quality
+  found_told None = refl
+  found_told (Some q) = refl
+
+  request_told : (w : Wait) → heard_quality (request_heard qs w) ≡ no_quality
+  request_told (Wait.Asking a) = found_told (earliest_of (allows (allowed_of a)) qs)
+  request_told (Wait.Entering e) = refl
+  request_told (Wait.Listening q) = refl
+  request_told (Wait.Stopping p) = refl
+  request_told (Wait.Reading q) = refl
+
+  call_told : (x : ExportedCall) → known_of x ≡ true → heard_quality (heard s qs (call_of x)) ≡ told_number x
+  unfolding known_of call_of
+  call_told (ExportedCall.Arrive token direction start time buffer length cca) h = refl
+  call_told (ExportedCall.Withdraw token) h = refl
+  call_told ExportedCall.Request h = request_told s.wait
+  call_told ExportedCall.None h = refl
+  call_told ExportedCall.FrameStart h = refl
+  call_told (ExportedCall.OutboundSeen start time cca) h = refl
+  call_told (ExportedCall.Stopped outcome length time k) h = refl
+  call_told (ExportedCall.Header arrived length) h = refl
+  call_told (ExportedCall.Entered result length time entry k) h = result_told length time k result h
+  call_told (ExportedCall.Fallback result length time cause causeTime k) h =
+      result_told length time k result ((and_parts (ltb result 5) (known (cause_table causeTime) cause) h).0)
+  call_told ExportedCall.Rollback h = refl
+
+-- the wait is told one call at most
+two_not_heard : (s : State) (qs : List Request) (c : ServiceCall) (d e : Call) (l : List Call) → heard s qs c ≡ d ∷ e ∷ l → ⊥
+two_not_heard s qs c d e l h = let z : length (heard s qs c) ≡ suc (suc (length l)) = ap (λ (k : List Call). length k) h in omega (arith, one_heard c)
+  where
+    found_once : (f : Option Request) → length (request_found f) ≤ 1
+    found_once None = omega arith
+    found_once (Some q) = omega arith
+
+    request_once : (w : Wait) → length (request_heard qs w) ≤ 1
+    request_once (Wait.Asking a) = found_once (earliest_of (allows (allowed_of a)) qs)
+    request_once (Wait.Entering x) = omega arith
+    request_once (Wait.Listening q) = omega arith
+    request_once (Wait.Stopping p) = omega arith
+    request_once (Wait.Reading q) = omega arith
+
+    one_heard : (x : ServiceCall) → length (heard s qs x) ≤ 1
+    one_heard (ServiceCall.Arrive q) = omega arith
+    one_heard (ServiceCall.Withdraw token) = omega arith
+    one_heard ServiceCall.Request = request_once s.wait
+    one_heard ServiceCall.None = omega arith
+    one_heard ServiceCall.FrameStart = omega arith
+    one_heard (ServiceCall.OutboundSeen start cca) = omega arith
+    one_heard (ServiceCall.Stopped r) = omega arith
+    one_heard (ServiceCall.Header arrived len) = omega arith
+    one_heard (ServiceCall.Entered r entry) = omega arith
+    one_heard (ServiceCall.Fallback r cause) = omega arith
+    one_heard ServiceCall.Rollback = omega arith
 
 module _ (x : ExportedCall) where
   -- what the bytes of an answer say, by its code and its quality
@@ -75,38 +131,57 @@ module _ (x : ExportedCall) where
   none : Carried (record { code = 0; length = 0; time = 0; quality = 0 })
   none = record { carried = refl; else_zero = λ h. refl }
 
-  response_carries : (k : known_of x ≡ true) (a : Answer) → CarriesTold (call_of x) a → Carried (response_fields a.response)
-  unfolding response_fields cause_fields scheduling_fields received_fields
-  response_carries k a h = go a.response (rw (call_told x k) at h)
-    where
-      go : (r : Response) → response_quality r ≡ cond (answers_transmit r) no_quality (told_number x) → Carried (response_fields r)
-      go (Response.Sent t) h = record { carried = refl; else_zero = λ z. refl }
-      go (Response.Nack t) h = record { carried = refl; else_zero = λ z. refl }
-      go (Response.Error (Cause.Scheduling Timestamp.BestEffort)) h = record { carried = refl; else_zero = λ z. refl }
-      go (Response.Error (Cause.Scheduling (Timestamp.Scheduled t))) h = record { carried = refl; else_zero = λ z. refl }
-      go (Response.Error Cause.Task) h = record { carried = refl; else_zero = λ z. refl }
-      go (Response.Received (RxResult.Frame n t k)) h = record { carried = h; else_zero = λ z. absurd (true≢false z) }
-      go (Response.Received RxResult.RxWindowEnded) h = record { carried = h; else_zero = λ z. refl }
-      go (Response.Received (RxResult.CrcError t k)) h = record { carried = h; else_zero = λ z. absurd (true≢false z) }
+  -- of a call that the wait is told
+  module _ (d : Call) (t : told_quality d ≡ told_number x) where
+    response_carries : (a : Answer) → CarriesTold d a → Carried (response_fields a.response)
+    unfolding response_fields cause_fields scheduling_fields received_fields
+    response_carries a h = go a.response (rw t at h)
+      where
+        go : (r : Response) → response_quality r ≡ cond (answers_transmit r) no_quality (told_number x) → Carried (response_fields r)
+        go (Response.Sent t) h = record { carried = refl; else_zero = λ z. refl }
+        go (Response.Nack t) h = record { carried = refl; else_zero = λ z. refl }
+        go (Response.Error (Cause.Scheduling Timestamp.BestEffort)) h = record { carried = refl; else_zero = λ z. refl }
+        go (Response.Error (Cause.Scheduling (Timestamp.Scheduled t))) h = record { carried = refl; else_zero = λ z. refl }
+        go (Response.Error Cause.Task) h = record { carried = refl; else_zero = λ z. refl }
+        go (Response.Received (RxResult.Frame n t k)) h = record { carried = h; else_zero = λ z. absurd (true≢false z) }
+        go (Response.Received RxResult.RxWindowEnded) h = record { carried = h; else_zero = λ z. refl }
+        go (Response.Received (RxResult.CrcError t k)) h = record { carried = h; else_zero = λ z. absurd (true≢false z) }
 
-  reply_carries : (k : known_of x ≡ true) (a : Answers) → AllCarryTold (call_of x) a → Carried (first_fields a).response × Carried (second_fields a).response
-  unfolding first_fields second_fields answer_fields
-  reply_carries k Answers.None h = (none, none)
-  reply_carries k (Answers.One a) h = (response_carries k a h, none)
-  reply_carries k (Answers.Two a b) h = (response_carries k a h.0, response_carries k b h.1)
+    reply_carries : (a : Answers) → AllCarryTold d a → Carried (first_fields a).response × Carried (second_fields a).response
+    unfolding first_fields second_fields answer_fields
+    reply_carries Answers.None h = (none, none)
+    reply_carries (Answers.One a) h = (response_carries a h, none)
+    reply_carries (Answers.Two a b) h = (response_carries a h.0, response_carries b h.1)
 
-  -- the engine's reply, also where a code stands for nothing
-  pub made_carries : (s : State) (po : List ℕ)
-      → CarriesQuality x (written_reply (made_outcome s po x).reply) 12 × CarriesQuality x (written_reply (made_outcome s po x).reply) 30
-  unfolding written_reply written_fields made_outcome unknown_of first_fields second_fields EveryQualityIsTold
-  made_carries s po =
-      let C = go (known_of x) refl in
-      (record { carried = C.0.carried; else_zero = C.0.else_zero }, record { carried = C.1.carried; else_zero = C.1.else_zero })
-    where
-      go : (t : Bool) → known_of x ≡ t
-          → Carried (first_fields (made_outcome s po x).reply.answers).response × Carried (second_fields (made_outcome s po x).reply.answers).response
-      go true e = rw e (reply_carries e (step_of s po (call_of x)).reply.answers (every_quality_is_told s po (call_of x)))
-      go false e = rw e (none, none)
+  abbrev BothCarried : Answers → Type 0
+  BothCarried a = Carried (first_fields a).response × Carried (second_fields a).response
+
+  nothing_carried : (r : Reply) → r ≡ no_reply → BothCarried r.answers
+  unfolding first_fields second_fields
+  nothing_carried r e = rw e (none, none)
+
+  -- the service's reply, also where a code stands for nothing
+  module _ (s : State) (qs : List Request) (po : List ℕ) where
+    known_carries : known_of x ≡ true → BothCarried (service_of s qs po (call_of x)).reply.answers
+    unfolding EveryCallHeard
+    known_carries k = go (heard s qs (call_of x)) refl
+      where
+        go : (l : List Call) → heard s qs (call_of x) ≡ l → BothCarried (service_of s qs po (call_of x)).reply.answers
+        go [] e = nothing_carried (service_of s qs po (call_of x)).reply ((every_call_heard s qs po (call_of x)).untold e).0
+        go (d ∷ []) e =
+            reply_carries d (ap heard_quality (sym e) ∙ call_told s qs x k) (service_of s qs po (call_of x)).reply.answers
+            ((every_call_heard s qs po (call_of x)).told d e).qualities
+        go (d ∷ c ∷ l) e = absurd (two_not_heard s qs (call_of x) d c l e)
+
+    pub made_carries : CarriesQuality x (written_reply (made_of s qs po x).reply) 12 × CarriesQuality x (written_reply (made_of s qs po x).reply) 30
+    unfolding written_reply written_fields made_of unknown_of first_fields second_fields
+    made_carries =
+        let C = go (known_of x) refl in
+        (record { carried = C.0.carried; else_zero = C.0.else_zero }, record { carried = C.1.carried; else_zero = C.1.else_zero })
+      where
+        go : (t : Bool) → known_of x ≡ t → BothCarried (made_of s qs po x).reply.answers
+        go true e = rw e (known_carries e)
+        go false e = rw e (none, none)
 
 -- ---- Another quality changes no other byte
 
@@ -119,30 +194,31 @@ module _ (k : ℕ) where
   unfolding result_of
   result_with length time j code = get_or-map (task_with (λ _. k)) (result_table length time j) code _
 
-  -- the call is the engine's with that quality, and its codes are known or not as before
-  call_with_lem : (x : ExportedCall) → (call_of (with_quality k x) ≡ call_with (λ _. k) (call_of x)) × (known_of (with_quality k x) ≡ known_of x)
+  -- the call is the service's with that quality, and its codes are known or not as before
+  call_with_lem : (x : ExportedCall) → (call_of (with_quality k x) ≡ service_call_with (λ _. k) (call_of x)) × (known_of (with_quality k x) ≡ known_of x)
   unfolding call_of known_of
-  call_with_lem (ExportedCall.Request token direction start time buffer length cca) = (refl, refl)
+  call_with_lem (ExportedCall.Arrive token direction start time buffer length cca) = (refl, refl)
+  call_with_lem (ExportedCall.Withdraw token) = (refl, refl)
+  call_with_lem ExportedCall.Request = (refl, refl)
   call_with_lem ExportedCall.None = (refl, refl)
   call_with_lem ExportedCall.FrameStart = (refl, refl)
   call_with_lem (ExportedCall.OutboundSeen start time cca) = (refl, refl)
-  call_with_lem (ExportedCall.Stopped outcome length time j) = (ap (λ (r : StopResult). Call.Stopped r) (stop_with_lem length time j outcome), refl)
+  call_with_lem (ExportedCall.Stopped outcome length time j) = (ap (λ (r : StopResult). ServiceCall.Stopped r) (stop_with_lem length time j outcome), refl)
   call_with_lem (ExportedCall.Header arrived length) = (refl, refl)
-  call_with_lem (ExportedCall.Entered result length time entry j) = (ap (λ (r : TaskResult). Call.Entered r entry) (result_with length time j result), refl)
+  call_with_lem (ExportedCall.Entered result length time entry j) = (ap (λ (r : TaskResult). ServiceCall.Entered r entry) (result_with length time j result), refl)
   call_with_lem (ExportedCall.Fallback result length time cause causeTime j) =
-      (ap (λ (r : TaskResult). Call.Fallback r (cause_of causeTime cause)) (result_with length time j result), refl)
+      (ap (λ (r : TaskResult). ServiceCall.Fallback r (cause_of causeTime cause)) (result_with length time j result), refl)
   call_with_lem ExportedCall.Rollback = (refl, refl)
 
-  made_with : (s : State) (po : List ℕ) (x : ExportedCall)
-      → (made_outcome s po (with_quality k x) ≡ outcome_with (λ _. k) (made_outcome s po x)) × (made_pool s po (with_quality k x) ≡ made_pool s po x)
-  unfolding made_outcome made_pool unknown_of QualityDecidesNothing
-  made_with s po x = rw ((call_with_lem x).0, (call_with_lem x).1) (go (known_of x))
+  made_with : (s : State) (qs : List Request) (po : List ℕ) (x : ExportedCall) → made_of s qs po (with_quality k x) ≡ served_with (λ _. k) (made_of s qs po x)
+  unfolding made_of unknown_of QualityDecidesNoCall
+  made_with s qs po x = rw ((call_with_lem x).0, (call_with_lem x).1) (go (known_of x))
     where
       go : (t : Bool)
-          → (cond t (step_of s po (call_with (λ _. k) (call_of x))) (unknown_of s (length po)) ≡ outcome_with (λ _. k) (cond t (step_of s po (call_of x)) (unknown_of s (length po))))
-          × (cond t (step_pool s po (call_with (λ _. k) (call_of x))) po ≡ cond t (step_pool s po (call_of x)) po)
-      go true = quality_decides_nothing (λ _. k) s po (call_of x)
-      go false = (refl, refl)
+          → cond t (service_of s qs po (service_call_with (λ _. k) (call_of x))) (unknown_of s qs po)
+          ≡ served_with (λ _. k) (cond t (service_of s qs po (call_of x)) (unknown_of s qs po))
+      go true = quality_decides_no_call (λ _. k) s qs po (call_of x)
+      go false = refl
 
 -- an answer's fields with another quality
 abbrev fields_with : AnswerFields → ℕ → AnswerFields
@@ -191,31 +267,32 @@ module _ (f : ℕ → ℕ) where
   unfolding written_reply
   reply_with r = fields_set (action_fields r.action) (first_fields r.answers) (second_fields r.answers) _ _ (first_with r.answers) (second_with r.answers)
 
-module _ (st re po : List ℕ) (x : ExportedCall) (k : ℕ) where
-  abbrev made : Outcome
-  made = made_outcome (state_at st) po x
+module _ (st li re po : List ℕ) (x : ExportedCall) (k : ℕ) where
+  abbrev made : Served
+  made = made_of (state_at st) (line_at li) po x
 
-  same_result : call_result st re po (with_quality k x) ≡ call_result st re po x
+  same_result : call_result st li re po (with_quality k x) ≡ call_result st li re po x
   unfolding call_result
-  same_result = rw (made_with k (state_at st) po x).0
+  same_result = rw (made_with k (state_at st) (line_at li) po x)
 
-  pub quality_apart : QualityApart st re po x k
-  unfolding call_state call_reply call_pool made_outcome unknown_of
+  pub quality_apart : QualityApart st li re po x k
+  unfolding call_state call_line call_reply call_pool made_of unknown_of
   quality_apart =
-      let M = made_with k (state_at st) po x in
+      let M = made_with k (state_at st) (line_at li) po x in
       record {
         result = same_result;
-        state = rw (same_result, M.0);
-        pool = rw (same_result, M.1);
-        reply = λ z. simp (same_result, M.0, eq-eqb _ 0 z) (reply_with (λ _. k) made.reply);
+        state = rw (same_result, M);
+        line = rw (same_result, M);
+        pool = rw (same_result, M);
+        reply = λ z. simp (same_result, M, eq-eqb _ 0 z) (reply_with (λ _. k) made.reply);
         ignored = λ u. rw same_result (unused u (known_of x) refl);
       }
     where
       unused : quality_used x ≡ false → (t : Bool) → known_of x ≡ t
-          → cond (eqb (call_result st re po x) 0) (written_reply (made_outcome (state_at st) po (with_quality k x)).reply) re
-          ≡ cond (eqb (call_result st re po x) 0) (written_reply (made_outcome (state_at st) po x).reply) re
+          → cond (eqb (call_result st li re po x) 0) (written_reply (made_of (state_at st) (line_at li) po (with_quality k x)).reply) re
+          ≡ cond (eqb (call_result st li re po x) 0) (written_reply (made_of (state_at st) (line_at li) po x).reply) re
       unused u true e = rw ((call_with_lem k x).1, unused_quality_ignored x k e u)
       unused u false e = rw ((call_with_lem k x).1, e)
 
 pub quality_changes_no_other_byte : QualityChangesNoOtherByte
-quality_changes_no_other_byte st re po x k = quality_apart st re po x k
+quality_changes_no_other_byte st li re po x k = quality_apart st li re po x k

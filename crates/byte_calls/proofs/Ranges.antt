@@ -202,8 +202,16 @@ module _ (set : Settings) (S : SettingsIn set) (pool : List ℕ) (A : AllBytes p
       (omega (arith, ltb-false 127 (l + set.fcs_length) (or_parts (ltb l 3) (ltb 127 (l + set.fcs_length)) h).1), t)
   action_in q spacing Task.Rx t h = t
 
+  taken_in : (a : Asked) (q : Request) → PartIn n (asked_part a) → q.token < 2 ^ 32 → TimestampFits q.start → q.buffer < n → tx_length_unfit set q.task ≡ false
+      → MoveIn (taken_of set pool a q)
+  unfolding taken_of wait_parts_of transition_parts
+  taken_in a q K t st below fit =
+      to (Wait.Entering (Transition.Request (previous_task_of set a).left (next_of set pool q q.task))) (answers_of (previous_task_of set a).owed) (action_in q (previous_task_of set a).spacing q.task st fit)
+      (left_in a K, next_in q q.task t below fit)
+      (given_in a K)
+
   request_in : (a : Asked) (q : Request) → PartIn n (asked_part a) → q.token < 2 ^ 32 → TimestampFits q.start → MoveIn (request_of (state_at set (Wait.Asking a)) pool a q)
-  unfolding request_of taken_of request_refusal wait_parts_of transition_parts
+  unfolding request_of request_refusal wait_parts_of taken_of
   request_in a q K t st =
       guard (Wait.Asking a) (K, nothing 0 0) _ _
       (λ ok.
@@ -211,9 +219,7 @@ module _ (set : Settings) (S : SettingsIn set) (pool : List ℕ) (A : AllBytes p
       let seven = passed (leb n q.buffer || buffer_held (state_at set (Wait.Asking a)) q.buffer) 7 _ (omega arith) six.1 in
       let eight = passed (tx_length_unfit set q.task) 8 _ (omega arith) seven.1 in
       let below = leb-false n q.buffer (or_parts (leb n q.buffer) _ seven.0).0 in
-      to (Wait.Entering (Transition.Request (previous_task_of set a).left (next_of set pool q q.task))) (answers_of (previous_task_of set a).owed) (action_in q (previous_task_of set a).spacing q.task st eight.0)
-      (left_in a K, next_in q q.task t (omega (arith, below)) eight.0)
-      (given_in a K))
+      taken_in a q K t st (omega (arith, below)) eight.0)
 
   none_in : (a : Asked) → PartIn n (asked_part a) → MoveIn (none_of (state_at set (Wait.Asking a)) a)
   unfolding none_of asked_part left_part next_part wait_parts_of transition_parts
@@ -427,6 +433,12 @@ module _ (set : Settings) (S : SettingsIn set) (pool : List ℕ) (A : AllBytes p
   wait_in (Wait.Listening q) c W C = listening_in q c W C
   wait_in (Wait.Stopping p) c W C = stopping_in p c W
   wait_in (Wait.Reading q) c W C = reading_in q c W
+
+  -- a request that leaves the line
+  pub leaves_in : (w : Wait) (a : Asked) (q : Request) → w ≡ Wait.Asking a → WaitIn n w → q.token < 2 ^ 32 → TimestampFits q.start → q.buffer < n
+      → tx_length_unfit set q.task ≡ false → MoveIn (taken_of set pool a q)
+  unfolding wait_parts_of
+  leaves_in w a q e W t st below fit = let K : WaitIn n (Wait.Asking a) = rw e at W in taken_in a q K.0 t st below fit
 
 pub step_in : (s : State) (pool : List ℕ) (c : Call) → StateIn s → AllBytes pool → CallIn c → MoveIn (move_of s pool c)
 unfolding move_of

@@ -9,7 +9,7 @@ use lib.ListN.{get_or}
 use native.Mathlib.Omega.{arith}
 use borrow.Author.Tests.{ltb-true}
 use Rattle.std.proofs.lemmas.Bool.{and_parts}
-use Rattle.tasks.specs.declared.Call.{Call}
+use Rattle.service.specs.declared.ServiceCall.{ServiceCall}
 use Rattle.tasks.specs.declared.StopResult.{StopResult}
 use Rattle.tasks.specs.declared.TaskResult.{TaskResult}
 use Rattle.call_codes.specs.declared.ExportedCall.{ExportedCall}
@@ -36,16 +36,18 @@ result_ignores length time k j code h u = unused_same _ _ _ _ _ _ _ _ _ code h u
 
 pub unused_quality_ignored : UnusedQualityIgnored
 unfolding known_of call_of
-unused_quality_ignored (ExportedCall.Request token direction start time buffer length cca) k h u = refl
+unused_quality_ignored (ExportedCall.Arrive token direction start time buffer length cca) k h u = refl
+unused_quality_ignored (ExportedCall.Withdraw token) k h u = refl
+unused_quality_ignored ExportedCall.Request k h u = refl
 unused_quality_ignored ExportedCall.None k h u = refl
 unused_quality_ignored ExportedCall.FrameStart k h u = refl
 unused_quality_ignored (ExportedCall.OutboundSeen start time cca) k h u = refl
 unused_quality_ignored (ExportedCall.Stopped outcome length time j) k h u =
-    ap (λ (r : StopResult). Call.Stopped r) (stop_ignores length time k j outcome h u)
+    ap (λ (r : StopResult). ServiceCall.Stopped r) (stop_ignores length time k j outcome h u)
 unused_quality_ignored (ExportedCall.Header arrived length) k h u = refl
 unused_quality_ignored (ExportedCall.Entered result length time entry j) k h u =
-    ap (λ (r : TaskResult). Call.Entered r entry) (result_ignores length time k j result h u)
+    ap (λ (r : TaskResult). ServiceCall.Entered r entry) (result_ignores length time k j result h u)
 unused_quality_ignored (ExportedCall.Fallback result length time cause causeTime j) k h u =
-    ap (λ (r : TaskResult). Call.Fallback r (cause_of causeTime cause))
+    ap (λ (r : TaskResult). ServiceCall.Fallback r (cause_of causeTime cause))
     (result_ignores length time k j result (and_parts (ltb result 5) (known (cause_table causeTime) cause) h).0 u)
 unused_quality_ignored ExportedCall.Rollback k h u = refl

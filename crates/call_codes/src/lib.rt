@@ -4,14 +4,18 @@
 ghost use Rattle.std.specs.Bool.{then_some};
 ghost use Rattle.std.specs.Prelude.{◌≡◌, ◌&&◌, ◌||◌, eqb};
 ghost use Rattle.call_codes.specs.Codes.{timestamp_table, timestamp_of, task_table, task_of, received_of, stop_table, stop_of, result_table, result_of, cause_table, cause_of, known, known_flag, known_of, call_of, settings_of};
+ghost use Rattle.service.specs.Service.{changes_line};
 
 use radio_frame::Settings;
-use tasks::{Call, Cause, Request, RxResult, StopResult, Task, TaskResult, Timestamp};
+use service::ServiceCall;
+use tasks::{Cause, Request, RxResult, StopResult, Task, TaskResult, Timestamp};
 
 // A call as the host makes it: which function, and its numbers in their order, as C passes them.
 #[derive(Clone, Copy)]
 pub enum ExportedCall {
-    Request(u32, u8, u8, u64, u8, u16, u8),
+    Arrive(u32, u8, u8, u64, u8, u16, u8),
+    Withdraw(u32),
+    Request,
     None,
     FrameStart,
     OutboundSeen(u8, u64, u8),
@@ -121,40 +125,57 @@ fn cause_of(code: u8, time: u64) -> Option<Cause>
 }
 
 impl ExportedCall {
-    // The engine's call, if all codes that the call uses stand for something.
+    // The service's call, if all codes that the call uses stand for something.
     #[tactic(auto, unfolding(crate::specs::Codes::known_of, crate::specs::Codes::call_of))]
-    pub fn call(self) -> Option<Call>
+    pub fn call(self) -> Option<ServiceCall>
         ensures { result ≡ then_some (known_of self) (call_of self) }
     {
         Some(match self {
-            ExportedCall::Request(token, direction, start, time, buffer, length, cca) =>
-                Call::Request(Request {
+            ExportedCall::Arrive(token, direction, start, time, buffer, length, cca) =>
+                ServiceCall::Arrive(Request {
                     token,
                     start: timestamp_of(start, time)?,
                     buffer,
                     task: task_of(direction, length, cca)?,
                 }),
-            ExportedCall::None => Call::None,
-            ExportedCall::FrameStart => Call::FrameStart,
-            ExportedCall::OutboundSeen(start, time, cca) => Call::OutboundSeen(
+            ExportedCall::Withdraw(token) => ServiceCall::Withdraw(token),
+            ExportedCall::Request => ServiceCall::Request,
+            ExportedCall::None => ServiceCall::None,
+            ExportedCall::FrameStart => ServiceCall::FrameStart,
+            ExportedCall::OutboundSeen(start, time, cca) => ServiceCall::OutboundSeen(
                 timestamp_of(start, time)?,
                 flag_of(cca)?,
             ),
-            ExportedCall::Stopped(outcome, length, time, quality) => Call::Stopped(stop_of(
+            ExportedCall::Stopped(outcome, length, time, quality) => ServiceCall::Stopped(stop_of(
                 outcome, length, time, quality,
             )?),
-            ExportedCall::Header(arrived, length) => Call::Header(arrived, length),
-            ExportedCall::Entered(result, length, time, entry, quality) => Call::Entered(
+            ExportedCall::Header(arrived, length) => ServiceCall::Header(arrived, length),
+            ExportedCall::Entered(result, length, time, entry, quality) => ServiceCall::Entered(
                 result_of(result, length, time, quality)?,
                 entry,
             ),
             ExportedCall::Fallback(result, length, time, cause, cause_time, quality) =>
-                Call::Fallback(
+                ServiceCall::Fallback(
                     result_of(result, length, time, quality)?,
                     cause_of(cause, cause_time)?,
                 ),
-            ExportedCall::Rollback => Call::Rollback,
+            ExportedCall::Rollback => ServiceCall::Rollback,
         })
+    }
+}
+
+impl ExportedCall {
+    // The calls that can change the line; all others leave it as it is.
+    #[tactic(auto, unfolding(service::specs::Service::changes_line, crate::specs::Codes::call_of))]
+    pub fn changes_line(self) -> bool
+        ensures { result ≡ changes_line (call_of self) }
+    {
+        matches!(
+            self,
+            ExportedCall::Arrive(_, _, _, _, _, _, _)
+                | ExportedCall::Withdraw(_)
+                | ExportedCall::Request
+        )
     }
 }
 

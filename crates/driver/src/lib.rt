@@ -1,4 +1,5 @@
-// The driver service as a total machine: start, and the nine calls, each made on the state that the last one left (driver.rs).
+// The waits of the driver service as a total machine: start, and the nine calls on a wait, each made on the state that the last one left
+// (driver.rs). driver_service sets the waiting line over it.
 #![tactic(auto)]
 
 ghost use Rattle.std.specs.Prelude.{◌≡◌};

@@ -20,10 +20,11 @@ pub extern "C" fn widosha_start(
     ack_buffer: u8,
     spare_buffer: u8,
     state: &mut [u8],
+    line: &mut [u8],
     reply: &mut [u8],
     pool: &mut [u8],
 ) -> u8
-    ensures { StartCalled (record { count = count; headroom = headroom; tailroom = tailroom; fcs_length = fcs_length; hardware_addr = hardware_addr; pan_id = pan_id; implicit_broadcast = implicit_broadcast; ack_buffer = ack_buffer; spare_buffer = spare_buffer }) state.old reply.old pool.old result state.new reply.new pool.new }
+    ensures { StartCalled (record { count = count; headroom = headroom; tailroom = tailroom; fcs_length = fcs_length; hardware_addr = hardware_addr; pan_id = pan_id; implicit_broadcast = implicit_broadcast; ack_buffer = ack_buffer; spare_buffer = spare_buffer }) state.old line.old reply.old pool.old result state.new line.new reply.new pool.new }
 {
     refusals::number(exported::start(
         StartNumbers {
@@ -38,13 +39,14 @@ pub extern "C" fn widosha_start(
             spare_buffer,
         },
         state,
+        line,
         reply,
         pool,
     ))
 }
 
 #[unsafe(no_mangle)]
-pub extern "C" fn widosha_request(
+pub extern "C" fn widosha_arrive(
     token: u32,
     direction: u8,
     start: u8,
@@ -53,31 +55,68 @@ pub extern "C" fn widosha_request(
     length: u16,
     cca: u8,
     state: &mut [u8],
+    line: &mut [u8],
     reply: &mut [u8],
     pool: &mut [u8],
 ) -> u8
-    ensures { Called state.old reply.old pool.old (ExportedCall.Request token direction start time buffer length cca) result state.new reply.new pool.new }
+    ensures { Called state.old line.old reply.old pool.old (ExportedCall.Arrive token direction start time buffer length cca) result state.new line.new reply.new pool.new }
 {
     refusals::number(exported::call(
         state,
+        line,
         reply,
         pool,
-        ExportedCall::Request(token, direction, start, time, buffer, length, cca),
+        ExportedCall::Arrive(token, direction, start, time, buffer, length, cca),
     ))
 }
 
 #[unsafe(no_mangle)]
-pub extern "C" fn widosha_none(state: &mut [u8], reply: &mut [u8], pool: &mut [u8]) -> u8
-    ensures { Called state.old reply.old pool.old ExportedCall.None result state.new reply.new pool.new }
+pub extern "C" fn widosha_withdraw(
+    token: u32,
+    state: &mut [u8],
+    line: &mut [u8],
+    reply: &mut [u8],
+    pool: &mut [u8],
+) -> u8
+    ensures { Called state.old line.old reply.old pool.old (ExportedCall.Withdraw token) result state.new line.new reply.new pool.new }
 {
-    refusals::number(exported::call(state, reply, pool, ExportedCall::None))
+    refusals::number(exported::call(state, line, reply, pool, ExportedCall::Withdraw(token)))
 }
 
 #[unsafe(no_mangle)]
-pub extern "C" fn widosha_frame_start(state: &mut [u8], reply: &mut [u8], pool: &mut [u8]) -> u8
-    ensures { Called state.old reply.old pool.old ExportedCall.FrameStart result state.new reply.new pool.new }
+pub extern "C" fn widosha_request(
+    state: &mut [u8],
+    line: &mut [u8],
+    reply: &mut [u8],
+    pool: &mut [u8],
+) -> u8
+    ensures { Called state.old line.old reply.old pool.old ExportedCall.Request result state.new line.new reply.new pool.new }
 {
-    refusals::number(exported::call(state, reply, pool, ExportedCall::FrameStart))
+    refusals::number(exported::call(state, line, reply, pool, ExportedCall::Request))
+}
+
+#[unsafe(no_mangle)]
+pub extern "C" fn widosha_none(
+    state: &mut [u8],
+    line: &mut [u8],
+    reply: &mut [u8],
+    pool: &mut [u8],
+) -> u8
+    ensures { Called state.old line.old reply.old pool.old ExportedCall.None result state.new line.new reply.new pool.new }
+{
+    refusals::number(exported::call(state, line, reply, pool, ExportedCall::None))
+}
+
+#[unsafe(no_mangle)]
+pub extern "C" fn widosha_frame_start(
+    state: &mut [u8],
+    line: &mut [u8],
+    reply: &mut [u8],
+    pool: &mut [u8],
+) -> u8
+    ensures { Called state.old line.old reply.old pool.old ExportedCall.FrameStart result state.new line.new reply.new pool.new }
+{
+    refusals::number(exported::call(state, line, reply, pool, ExportedCall::FrameStart))
 }
 
 #[unsafe(no_mangle)]
@@ -86,13 +125,15 @@ pub extern "C" fn widosha_outbound_seen(
     time: u64,
     cca: u8,
     state: &mut [u8],
+    line: &mut [u8],
     reply: &mut [u8],
     pool: &mut [u8],
 ) -> u8
-    ensures { Called state.old reply.old pool.old (ExportedCall.OutboundSeen start time cca) result state.new reply.new pool.new }
+    ensures { Called state.old line.old reply.old pool.old (ExportedCall.OutboundSeen start time cca) result state.new line.new reply.new pool.new }
 {
     refusals::number(exported::call(
         state,
+        line,
         reply,
         pool,
         ExportedCall::OutboundSeen(start, time, cca),
@@ -106,13 +147,15 @@ pub extern "C" fn widosha_stopped(
     time: u64,
     quality: u8,
     state: &mut [u8],
+    line: &mut [u8],
     reply: &mut [u8],
     pool: &mut [u8],
 ) -> u8
-    ensures { Called state.old reply.old pool.old (ExportedCall.Stopped outcome length time quality) result state.new reply.new pool.new }
+    ensures { Called state.old line.old reply.old pool.old (ExportedCall.Stopped outcome length time quality) result state.new line.new reply.new pool.new }
 {
     refusals::number(exported::call(
         state,
+        line,
         reply,
         pool,
         ExportedCall::Stopped(outcome, length, time, quality),
@@ -124,12 +167,19 @@ pub extern "C" fn widosha_header(
     arrived: u16,
     length: u16,
     state: &mut [u8],
+    line: &mut [u8],
     reply: &mut [u8],
     pool: &mut [u8],
 ) -> u8
-    ensures { Called state.old reply.old pool.old (ExportedCall.Header arrived length) result state.new reply.new pool.new }
+    ensures { Called state.old line.old reply.old pool.old (ExportedCall.Header arrived length) result state.new line.new reply.new pool.new }
 {
-    refusals::number(exported::call(state, reply, pool, ExportedCall::Header(arrived, length)))
+    refusals::number(exported::call(
+        state,
+        line,
+        reply,
+        pool,
+        ExportedCall::Header(arrived, length),
+    ))
 }
 
 #[unsafe(no_mangle)]
@@ -140,13 +190,15 @@ pub extern "C" fn widosha_entered(
     entry: u64,
     quality: u8,
     state: &mut [u8],
+    line: &mut [u8],
     reply: &mut [u8],
     pool: &mut [u8],
 ) -> u8
-    ensures { Called state.old reply.old pool.old (ExportedCall.Entered res length time entry quality) result state.new reply.new pool.new }
+    ensures { Called state.old line.old reply.old pool.old (ExportedCall.Entered res length time entry quality) result state.new line.new reply.new pool.new }
 {
     refusals::number(exported::call(
         state,
+        line,
         reply,
         pool,
         ExportedCall::Entered(res, length, time, entry, quality),
@@ -162,13 +214,15 @@ pub extern "C" fn widosha_fallback(
     cause_time: u64,
     quality: u8,
     state: &mut [u8],
+    line: &mut [u8],
     reply: &mut [u8],
     pool: &mut [u8],
 ) -> u8
-    ensures { Called state.old reply.old pool.old (ExportedCall.Fallback res length time cause cause_time quality) result state.new reply.new pool.new }
+    ensures { Called state.old line.old reply.old pool.old (ExportedCall.Fallback res length time cause cause_time quality) result state.new line.new reply.new pool.new }
 {
     refusals::number(exported::call(
         state,
+        line,
         reply,
         pool,
         ExportedCall::Fallback(res, length, time, cause, cause_time, quality),
@@ -176,8 +230,13 @@ pub extern "C" fn widosha_fallback(
 }
 
 #[unsafe(no_mangle)]
-pub extern "C" fn widosha_rollback(state: &mut [u8], reply: &mut [u8], pool: &mut [u8]) -> u8
-    ensures { Called state.old reply.old pool.old ExportedCall.Rollback result state.new reply.new pool.new }
+pub extern "C" fn widosha_rollback(
+    state: &mut [u8],
+    line: &mut [u8],
+    reply: &mut [u8],
+    pool: &mut [u8],
+) -> u8
+    ensures { Called state.old line.old reply.old pool.old ExportedCall.Rollback result state.new line.new reply.new pool.new }
 {
-    refusals::number(exported::call(state, reply, pool, ExportedCall::Rollback))
+    refusals::number(exported::call(state, line, reply, pool, ExportedCall::Rollback))
 }

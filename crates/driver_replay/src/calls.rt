@@ -2,7 +2,8 @@
 // the kinds, and stays.
 use crate::columns::Record;
 use radio_frame::Settings;
-use tasks::{Call, Cause, Request, RxResult, StopResult, Task, TaskResult, Timestamp};
+use service::ServiceCall;
+use tasks::{Cause, Request, RxResult, StopResult, Task, TaskResult, Timestamp};
 
 impl Record {
     fn start(&self, time: u64) -> Timestamp {
@@ -61,17 +62,19 @@ impl Record {
     }
 
     // None where no call has a record of this kind.
-    pub fn call(&self) -> Option<Call> {
+    pub fn call(&self) -> Option<ServiceCall> {
         Some(match self.kind {
-            'q' => Call::Request(self.request()),
-            'n' => Call::None,
-            'f' => Call::FrameStart,
-            'o' => Call::OutboundSeen(self.start(self.d), self.z),
-            'p' => Call::Stopped(self.stop_result()),
-            'h' => Call::Header(self.b, self.c),
-            'e' => Call::Entered(self.task_result(), self.e),
-            'b' => Call::Fallback(self.task_result(), self.cause()),
-            'r' => Call::Rollback,
+            'A' => ServiceCall::Arrive(self.request()),
+            'W' => ServiceCall::Withdraw(self.a),
+            'q' => ServiceCall::Request,
+            'n' => ServiceCall::None,
+            'f' => ServiceCall::FrameStart,
+            'o' => ServiceCall::OutboundSeen(self.start(self.d), self.z),
+            'p' => ServiceCall::Stopped(self.stop_result()),
+            'h' => ServiceCall::Header(self.b, self.c),
+            'e' => ServiceCall::Entered(self.task_result(), self.e),
+            'b' => ServiceCall::Fallback(self.task_result(), self.cause()),
+            'r' => ServiceCall::Rollback,
             _ => return None,
         })
     }

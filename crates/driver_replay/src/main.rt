@@ -1,5 +1,5 @@
-// Replays the records of standard input, 64 bytes each, over the driver service, and prints a line of 122 bytes for each call
-// and each dump. docs/REPLAY-FORMAT.md has the columns.
+// Replays the records of standard input, 64 bytes each, over the driver service with its waiting line, and prints a line of 122 bytes for
+// each call and each dump. docs/REPLAY-FORMAT.md has the columns.
 #![tactic(auto)]
 
 mod calls;
@@ -9,17 +9,20 @@ mod replies;
 use columns::Record;
 use radio_frame::Settings;
 use refusals::Refusal;
+use service::ServiceCall;
 use std::io::{self, ErrorKind};
-use tasks::{Asked, Call, Reply, State, Wait};
+use tasks::{Asked, Reply, State, Wait};
+use waiting_line::{DRIVER_CHANNEL_CAPACITY, Line, Place, RequestRecord};
 
 // 33 buffers of 144 bytes: one more than the most that a start accepts.
 const POOL: usize = 4752;
 
-// The state that the last call left, the pool, and how many bytes of it are lent. An array with a length beside it: the memory is fixed,
-// with no heap, and what is lent may be shorter than the pool.
+// The state and the line that the last call left, the pool, and how many bytes of it are lent. An array with a length beside it: the
+// memory is fixed, with no heap, and what is lent may be shorter than the pool.
 #[derive(Drop)]
 struct Session {
     state: State,
+    run: [RequestRecord; DRIVER_CHANNEL_CAPACITY],
     pool: [u8; POOL],
     length: usize,
 }
@@ -32,6 +35,7 @@ impl Session {
                 set: Settings::default(),
                 wait: Wait::Asking(Asked::Idle),
             },
+            run: [RequestRecord { place: Place::Free }; DRIVER_CHANNEL_CAPACITY],
             pool: [0; POOL],
             length: 0,
         }
@@ -42,17 +46,23 @@ impl Session {
         &mut self.pool[..length.min(POOL)]
     }
 
-    // A refused start leaves the session as it was.
+    // A refused start leaves the session as it was. The run is stored where a call is refused too, so that what that did to it is seen.
     fn start(&mut self, r: &Record) -> Result<Reply, Refusal> {
         let length = r.pool_length();
-        let (state, reply) = driver::start(r.settings(), self.lent(length))?;
+        let mut run = self.run;
+        let told = driver_service::start_on(r.settings(), &mut run, self.lent(length));
+        self.run = run;
+        let (state, reply) = told?;
         self.state = state;
         self.length = length;
         Ok(reply)
     }
 
-    fn call(&mut self, c: Call) -> Result<Reply, Refusal> {
-        let (state, reply) = driver::step(self.state, self.lent(self.length), c)?;
+    fn call(&mut self, c: ServiceCall) -> Result<Reply, Refusal> {
+        let mut run = self.run;
+        let told = driver_service::step_on(self.state, &mut run, self.lent(self.length), c);
+        self.run = run;
+        let (state, reply) = told?;
         self.state = state;
         Ok(reply)
     }
@@ -85,6 +95,11 @@ impl Session {
             'z' => self.pool = [0; POOL],
             'd' => {
                 let bytes = util::bytes_at::<48>(&self.pool, r.a as usize);
+                replies::dump(rt, r.kind, r.a, &bytes)?;
+            }
+            'L' => {
+                let line = line_bytes::encode(&Line::from_run(&self.run));
+                let bytes = util::bytes_at::<48>(&line, r.a as usize);
                 replies::dump(rt, r.kind, r.a, &bytes)?;
             }
             'a' => {

@@ -1,8 +1,9 @@
 -- The waiting line as a lent run of request records: document 02, E1, "a lent run of four request records".
 -- Assumes nothing.
-use Rattle.std.specs.Prelude.{ℕ, cond, List, eqb, length}
+use Rattle.std.specs.Prelude.{ℕ, ◌≤◌, ◌≡◌, cond, List, eqb, length}
 use Rattle.radio_frame.specs.declared.Settings.{Settings}
 use Rattle.tasks.specs.declared.Asked.{Asked}
+use Rattle.tasks.specs.declared.Request.{Request}
 use Rattle.tasks.specs.declared.State.{State}
 use Rattle.tasks.specs.declared.Wait.{Wait}
 use Rattle.engine.specs.Step.{Outcome}
@@ -45,3 +46,15 @@ lent_start_line set xs pool = run_after xs (lent_begun set xs pool)
 
 unfoldable pub lent_start_pool : Settings → List RequestRecord → List ℕ → List ℕ
 lent_start_pool set xs pool = (lent_begun set xs pool).pool
+
+-- ---- Laws of these definitions; proofs/Lent.antt has their proofs.
+
+-- on the records that a line is written as, a call is the call on that line, and it leaves the records of the line after it: so a list of
+-- calls on a lent run is the list of them on a line
+pub record OnRecords (s : State) (qs : List Request) (pool : List ℕ) (c : ServiceCall) : Type 0 where
+  pub outcome : lent_outcome s (records 4 qs) pool c ≡ outcome_in (service_of s qs pool c)
+  pub line : lent_line s (records 4 qs) pool c ≡ records 4 (service_of s qs pool c).line
+  pub pool_bytes : lent_pool s (records 4 qs) pool c ≡ (service_of s qs pool c).pool
+
+abbrev pub LentIsLine : Type 0
+LentIsLine = (s : State) (qs : List Request) (pool : List ℕ) (c : ServiceCall) → length qs ≤ 4 → OnRecords s qs pool c

@@ -10,14 +10,15 @@ ghost use Rattle.engine.specs.Refusals.{no_reply};
 ghost use Rattle.engine.specs.Actions.{outbound_open};
 ghost use Rattle.driver.specs.Promises.{idle_of};
 ghost use Rattle.engine.specs.Step.{outcome_told};
-ghost use Rattle.service.specs.Service.{is_named, allowed_waits, arrive_of, withdraw_of, take_of, request_of, none_of, outbound_seen_of, call_of};
+ghost use Rattle.service.specs.Service.{is_named, allowed_waits, arrive_of, withdraw_of, take_of, request_of, call_of};
+ghost use Rattle.driver_service.specs.Given.{given_of};
 ghost use Rattle.driver_service.specs.Promises.{served, ServiceStepped, ServiceStarted};
 ghost use Rattle.driver_service.specs.Lent.{lent_outcome, lent_line, lent_pool, lent_start, lent_start_line, lent_start_pool};
 
 use radio_frame::Settings;
 use refusals::Refusal;
 use service::ServiceCall;
-use tasks::{Asked, Call, Reply, Request, State, Stop, Timestamp, Wait};
+use tasks::{Asked, Call, Reply, Request, State, Stop, Wait};
 use waiting_line::{DRIVER_CHANNEL_CAPACITY, Line, RequestRecord};
 
 // What a call on the line returns: the state as it was, no action and no answer.
@@ -108,37 +109,30 @@ fn is_allowed_waiting(line: &Line, w: Wait) -> bool
     }
 }
 
-#[tactic(auto, unfolding(service::specs::Service::none_of))]
-fn none(s: State, line: &Line, pool: &mut [u8]) -> Result<(State, Reply), Refusal>
-    ensures { served (outcome_told s result) line.now pool.new ≡ none_of s line.now pool.old }
+// The call that the wait is given, unless the line bars it; a call on the line, and Request, are none.
+#[tactic(auto, unfolding(crate::specs::Given::given_of))]
+fn given(line: &Line, w: Wait, c: ServiceCall) -> Option<Call>
+    ensures { result ≡ given_of line.now w c }
 {
-    if is_allowed_waiting(line, s.wait) {
-        Err(Refusal::Unfit)
-    } else {
-        driver::step(s, pool, Call::None)
-    }
-}
-
-#[tactic(auto, unfolding(service::specs::Service::outbound_seen_of))]
-fn outbound_seen(
-    s: State,
-    line: &Line,
-    pool: &mut [u8],
-    start: Timestamp,
-    cca: bool,
-) -> Result<(State, Reply), Refusal>
-    ensures { served (outcome_told s result) line.now pool.new ≡ outbound_seen_of s line.now pool.old start cca }
-{
-    if line.names_tx(start, cca) {
-        driver::step(s, pool, Call::OutboundSeen(start, cca))
-    } else {
-        Err(Refusal::Unfit)
+    match c {
+        ServiceCall::None if !is_allowed_waiting(line, w) => Some(Call::None),
+        ServiceCall::FrameStart => Some(Call::FrameStart),
+        ServiceCall::OutboundSeen(start, cca) if line.names_tx(start, cca) => Some(
+            Call::OutboundSeen(start, cca),
+        ),
+        ServiceCall::Stopped(r) => Some(Call::Stopped(r)),
+        ServiceCall::Header(arrived, length) => Some(Call::Header(arrived, length)),
+        ServiceCall::Entered(r, entry) => Some(Call::Entered(r, entry)),
+        ServiceCall::Fallback(r, cause) => Some(Call::Fallback(r, cause)),
+        ServiceCall::Rollback => Some(Call::Rollback),
+        _ => None,
     }
 }
 
 // ---- A call
 
-#[tactic(auto, unfolding(service::specs::Service::call_of))]
+// One place at which the driver is called: each has a result of its own on the stack.
+#[tactic(auto, unfolding(service::specs::Service::call_of, service::specs::Service::none_of, service::specs::Service::outbound_seen_of, crate::specs::Given::given_of))]
 fn call(
     s: State,
     line: &mut Line,
@@ -151,18 +145,7 @@ fn call(
         ServiceCall::Arrive(q) => arrive(s, line, q),
         ServiceCall::Withdraw(token) => withdraw(s, line, token),
         ServiceCall::Request => request(s, line, pool),
-        ServiceCall::None => none(s, line, pool),
-        ServiceCall::FrameStart => driver::step(s, pool, Call::FrameStart),
-        ServiceCall::OutboundSeen(start, cca) => outbound_seen(s, line, pool, start, cca),
-        ServiceCall::Stopped(r) => driver::step(s, pool, Call::Stopped(r)),
-        ServiceCall::Header(arrived, length) => driver::step(
-            s,
-            pool,
-            Call::Header(arrived, length),
-        ),
-        ServiceCall::Entered(r, entry) => driver::step(s, pool, Call::Entered(r, entry)),
-        ServiceCall::Fallback(r, cause) => driver::step(s, pool, Call::Fallback(r, cause)),
-        ServiceCall::Rollback => driver::step(s, pool, Call::Rollback),
+        _ => driver::step(s, pool, given(line, s.wait, c).ok_or(Refusal::Unfit)?),
     }
 }
 
@@ -185,7 +168,7 @@ pub fn start(set: Settings, line: &mut Line, pool: &mut [u8]) -> Result<(State, 
     ensures { ServiceStarted set line.old pool.old (outcome_told (idle_of set) result) line.new pool.new }
 {
     let idle = driver::start(set, pool)?;
-    *line = Line::new();
+    line.clear();
     Ok(idle)
 }
 

@@ -51,7 +51,7 @@ pub data Progress : Type 0 where
   -- a call was accepted that has no place here: no answer is right any more
   astray : Progress
 
--- Request, and None: the queue is asked while the frame is sent, or while what may be its ACK is received
+-- Request, and None: the line is asked while the frame is sent, or while what may be its ACK is received
 abbrev pub told_asked : Progress → Progress
 told_asked requested = accepted
 told_asked accepted = astray

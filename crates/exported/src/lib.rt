@@ -1,4 +1,4 @@
-// A call and a start of the driver service on numbers and byte slices: the engine's, between reading and writing (docs/LAYOUTS.md).
+// A call and a start of the driver service on numbers and byte slices: the service's, between reading and writing (docs/LAYOUTS.md).
 #![tactic(auto)]
 
 ghost use Rattle.std.specs.Prelude.{◌≡◌};
@@ -8,31 +8,42 @@ ghost use Rattle.byte_calls.specs.Start.{StartCalled};
 
 use call_codes::{ExportedCall, StartNumbers};
 use refusals::Refusal;
+use waiting_line::Line;
 
 // One call over bytes.
 pub fn call(
     state: &mut [u8],
+    line: &mut [u8],
     reply: &mut [u8],
     pool: &mut [u8],
     x: ExportedCall,
 ) -> Result<(), Refusal>
-    ensures { Called state.old reply.old pool.old x (number_of result) state.new reply.new pool.new }
+    ensures { Called state.old line.old reply.old pool.old x (number_of result) state.new line.new reply.new pool.new }
 {
-    let s = slices::read(state, reply.len())?;
-    slices::finish(outcomes::made(s, pool, x), state, reply)
+    let mut waiting = Line::new();
+    let s = slices::read(state, line, reply.len(), &mut waiting)?;
+    slices::finish(outcomes::made(s, &mut waiting, pool, x), state, reply)?;
+    if x.changes_line() {
+        slices::write_line(&waiting, line);
+    }
+    Ok(())
 }
 
-// A start over bytes.
+// A start over bytes; what stands in the line slice is not read.
 pub fn start(
     n: StartNumbers,
     state: &mut [u8],
+    line: &mut [u8],
     reply: &mut [u8],
     pool: &mut [u8],
 ) -> Result<(), Refusal>
-    ensures { StartCalled n state.old reply.old pool.old (number_of result) state.new reply.new pool.new }
+    ensures { StartCalled n state.old line.old reply.old pool.old (number_of result) state.new line.new reply.new pool.new }
 {
-    if !slices::slices_fit(state.len(), reply.len()) {
+    if !slices::slices_fit(state.len(), line.len(), reply.len()) {
         return Err(Refusal::Slices);
     }
-    slices::finish(outcomes::begun(n, pool), state, reply)
+    let mut waiting = Line::new();
+    slices::finish(outcomes::begun(n, &mut waiting, pool), state, reply)?;
+    slices::write_line(&waiting, line);
+    Ok(())
 }

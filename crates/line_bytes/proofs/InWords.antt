@@ -18,7 +18,7 @@ abbrev refusal : Bool → Bool → Bool → Bool → Bool → Bool → ℕ
 refusal token range held buffer unfit waits =
     cond token 6 (cond (range || (held || buffer)) 7 (cond unfit 8 (cond false 12 (cond waits 13 0))))
 
-abbrev NoneTrue : Bool → Bool → Bool → Bool → Bool → Bool → Type 0
+abbrev pub NoneTrue : Bool → Bool → Bool → Bool → Bool → Bool → Type 0
 NoneTrue token range held buffer unfit waits =
     (token ≡ false) × (range ≡ false) × (held ≡ false) × (buffer ≡ false) × (unfit ≡ false) × (waits ≡ false)
 
@@ -49,7 +49,7 @@ module _ (number : Request → ℕ) (n : ℕ) where
   others (q ∷ qs) h = rw (ne_eqb (number q) n h.0, others qs h.1)
 
 module _ (s : State) where
-  abbrev passes : Request → List Request → Type 0
+  abbrev pub passes : Request → List Request → Type 0
   passes q qs =
       NoneTrue (token_held s.wait q.token) (leb s.set.count q.buffer) (buffer_held s q.buffer) (any_passes (has_buffer q.buffer) qs)
       (tx_length_unfit s.set q.task) (any_passes (has_token q.token) qs)
@@ -60,7 +60,7 @@ module _ (s : State) where
       no_refusal (token_held s.wait q.token) (leb s.set.count q.buffer) (buffer_held s q.buffer) (any_passes (has_buffer q.buffer) qs)
       (tx_length_unfit s.set q.task) (any_passes (has_token q.token) qs) h
 
-  passes_fits : (q : Request) (qs : List Request) → passes q qs → request_fits s q qs ≡ true
+  pub passes_fits : (q : Request) (qs : List Request) → passes q qs → request_fits s q qs ≡ true
   unfolding request_fits arrival_refusal
   passes_fits q qs h =
       none_true (token_held s.wait q.token) (leb s.set.count q.buffer) (buffer_held s q.buffer) (any_passes (has_buffer q.buffer) qs)

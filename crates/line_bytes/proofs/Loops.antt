@@ -1,6 +1,6 @@
 -- What the loops of writing and of reading have done so far, on plain lists.
 -- Assumes nothing.
-use Rattle.std.proofs.Common.{ℕ, zero, suc, ◌≡◌, ◌+◌, ◌-◌, ◌<◌, ◌≤◌, min, List, [], ◌∷◌, ◌++◌, map, length, get_or, take, drop, replicate, append_assoc, refl, sym, ap, ◌∙◌, arith}
+use Rattle.std.proofs.Common.{Option, Some, None, ◌&&◌, ℕ, zero, suc, ◌≡◌, ◌+◌, ◌-◌, ◌<◌, ◌≤◌, min, List, [], ◌∷◌, ◌++◌, map, length, get_or, take, drop, replicate, append_assoc, refl, sym, ap, ◌∙◌, arith}
 pub use Rattle.std.proofs.Common.{append-nil}
 pub use Rattle.std.proofs.lemmas.List.{length_push}
 pub use borrow.Author.Tests.{lt-leb}
@@ -8,9 +8,12 @@ use Rattle.std.specs.List.{flat_map}
 use Rattle.std.proofs.lemmas.List.{take_min, drop_min, take_all}
 use lib.Seq.{get_or-take, take-append_seam, drop-append_seam}
 use borrow.Author.Tests.{eq-eqb, ne_eqb}
+use Rattle.std.specs.Prelude.{slice_get}
 use Rattle.tasks.specs.declared.Request.{Request}
+use Rattle.tasks.specs.declared.State.{State}
 use Rattle.util.specs.Bytes.{number_at}
 use Rattle.line_bytes.specs.Layout.{record_bytes, free_bytes, written_line, request_at, read_records}
+use Rattle.line_bytes.specs.Valid.{request_fits, line_fits}
 
 -- the records of all requests, and free ones behind them
 all_records : (qs : List Request) → length qs ≤ 4 → flat_map (λ x. x) (map record_bytes qs ++ replicate (4 - length qs) free_bytes) ≡ written_line qs
@@ -84,3 +87,13 @@ one_more xs x ys = append_assoc xs (x ∷ []) ys
 
 -- what the search is given for the loop of line_at
 pub ruleset reading = (read_more, free_ends, none_left, none_wanted, one_more, append-nil, length_push, lt-leb)
+
+-- ---- Which requests fit: the one at a place with those behind it, and then those
+
+module _ (s : State) where
+  pub fits_turn : (qs : List Request) (i : ℕ) (q : Request) → slice_get qs i ≡ Some q
+      → line_fits s (drop i qs) ≡ request_fits s q (drop (suc i) qs) && line_fits s (drop (suc i) qs)
+  unfolding line_fits
+  fits_turn [] i q h = absurd (let z : ◌≡◌ {A = Option Request} None (Some q) = h in cc)
+  fits_turn (r ∷ qs) zero q h = let same : r ≡ q = cc in rw same refl
+  fits_turn (r ∷ qs) (suc i) q h = fits_turn qs i q h

@@ -16,6 +16,7 @@ use Rattle.tasks.specs.declared.Timestamp.{Timestamp}
 use Rattle.state_bytes.specs.Valid.{same_list}
 use Rattle.std.proofs.lemmas.Bool.{and_parts}
 use Rattle.state_bytes.proofs.Same.{same_true, same_refl}
+use Rattle.line_bytes.proofs.InWords.{fits_exactly}
 use Rattle.line_bytes.specs.Layout.{start_fields, task_fields, record_bytes, written_records, written_line, start_at, task_at, request_at, read_records, line_at}
 use Rattle.line_bytes.specs.Valid.{line_fits, holds_line, Every, RequestSized, LineSized, LineReadsBack, LinePasses, LineWrittenFrom, LineHeldExactly}
 
@@ -129,9 +130,9 @@ read_from s bytes A h =
     record {
       line = l;
       sized = line_sized bytes A;
-      fits = (and_parts fits written h).0;
+      fits = (fits_exactly s l).0 (and_parts fits written h).0;
       written = same_true (written_line l) bytes ((and_parts fits written h).1);
     }
 
 pub line_held_exactly : LineHeldExactly
-line_held_exactly s bytes A = (read_from s bytes A, λ w. rw (← w.written) (line_passes s w.line w.sized w.fits))
+line_held_exactly s bytes A = (read_from s bytes A, λ w. rw (← w.written) (line_passes s w.line w.sized ((fits_exactly s w.line).1 w.fits)))

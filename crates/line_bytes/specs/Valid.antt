@@ -1,6 +1,6 @@
 -- Which bytes are a line's, in a state: document 02, E1, refusal 1.
 -- Assumes nothing.
-use Rattle.std.specs.Prelude.{ℕ, ◌^◌, ◌<◌, ◌≤◌, ◌≡◌, ◌↔◌, ◌≢◌, Bool, true, false, cond, ◌&&◌, List, [], ◌∷◌, eqb, length, Option, Some, None}
+use Rattle.std.specs.Prelude.{ℕ, ◌^◌, ◌<◌, ◌≤◌, ◌≡◌, ◌↔◌, ◌≢◌, Bool, true, false, ◌&&◌, List, [], ◌∷◌, eqb, length}
 use Rattle.util.specs.Bytes.{AllBytes}
 use Rattle.tasks.specs.declared.Request.{Request}
 use Rattle.tasks.specs.declared.State.{State}
@@ -25,19 +25,6 @@ line_fits s (q ∷ qs) = request_fits s q qs && line_fits s qs
 -- the bytes read as a line that fits, and that line is written as them
 unfoldable pub holds_line : State → List ℕ → Bool
 holds_line s bytes = line_fits s (line_at bytes) && same_list (written_line (line_at bytes)) bytes
-
-unfoldable pub decoded_line_of : State → List ℕ → Option (List Request)
-decoded_line_of s bytes = cond (holds_line s bytes) (Some (line_at bytes)) None
-
--- the refusal number of each case
-unfoldable pub decoded_line_refusal : Option (List Request) → ℕ
-decoded_line_refusal (Some l) = 0
-decoded_line_refusal None = 1
-
--- what decode answers: the case, and the document's number for it
-pub record DecodesLine (s : State) (bytes : List ℕ) (r : Option (List Request)) : Type 0 where
-  pub case : r ≡ decoded_line_of s bytes
-  pub refusal : decoded_line_refusal r ≡ cond (holds_line s bytes) 0 1
 
 -- ---- Laws of these definitions; proofs/ReadBack.antt and proofs/InWords.antt have their proofs.
 
@@ -69,20 +56,6 @@ LinePasses =
     line_fits s l ≡ true →
     holds_line s (written_line l) ≡ true
 
--- bytes that some line that fits is written as
-pub record LineWrittenFrom (s : State) (bytes : List ℕ) : Type 0 where
-  pub line : List Request
-  pub sized : LineSized line
-  pub fits : line_fits s line ≡ true
-  pub written : written_line line ≡ bytes
-
--- bytes are accepted exactly if some line that fits is written as them
-abbrev pub LineHeldExactly : Type 0
-LineHeldExactly =
-    (s : State) (bytes : List ℕ) →
-    AllBytes bytes →
-    holds_line s bytes ≡ true ↔ LineWrittenFrom s bytes
-
 -- no two requests have the same number
 abbrev pub Different : (Request → ℕ) → List Request → Type 0
 Different number [] = Unit {0}
@@ -103,3 +76,17 @@ pub record FitsInWords (s : State) (qs : List Request) : Type 0 where
 
 abbrev pub FitsExactly : Type 0
 FitsExactly = (s : State) (qs : List Request) → line_fits s qs ≡ true ↔ FitsInWords s qs
+
+-- bytes that some line which fits, in the document's words, is written as
+pub record LineWrittenFrom (s : State) (bytes : List ℕ) : Type 0 where
+  pub line : List Request
+  pub sized : LineSized line
+  pub fits : FitsInWords s line
+  pub written : written_line line ≡ bytes
+
+-- bytes are accepted exactly if some line that fits is written as them
+abbrev pub LineHeldExactly : Type 0
+LineHeldExactly =
+    (s : State) (bytes : List ℕ) →
+    AllBytes bytes →
+    holds_line s bytes ≡ true ↔ LineWrittenFrom s bytes

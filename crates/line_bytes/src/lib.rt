@@ -4,7 +4,7 @@
 ghost use Rattle.std.specs.Prelude.{◌≡◌};
 ghost use Rattle.state_bytes.specs.Valid.{same_list};
 ghost use Rattle.line_bytes.specs.Layout.{start_fields, task_fields, record_bytes, written_line, start_at, task_at, request_at, line_at};
-ghost use Rattle.line_bytes.specs.Valid.{request_fits, line_fits, DecodesLine};
+ghost use Rattle.line_bytes.specs.Valid.{request_fits, line_fits, holds_line};
 
 use tasks::{Request, State, Task, Timestamp};
 use waiting_line::{DRIVER_CHANNEL_CAPACITY, Line};
@@ -132,19 +132,18 @@ fn request_at(bytes: &[u8]) -> Request
     }
 }
 
-// The requests of the records before the first one that is free.
+// The requests of the records before the first one that is free, in a line that is lent: a returned one would be moved, 136 bytes each time.
 #[tactic(auto, unfolding(crate::specs::Layout::line_at), using(crate::proofs::Loops::reading))]
-fn line_at(bytes: &[u8]) -> Line
-    ensures { result ≡ line_at bytes.now }
+fn read_line(bytes: &[u8], line: &mut Line)
+    ensures { line.new ≡ line_at bytes.now }
 {
-    let mut line = Line::new();
+    line.clear();
     for record in bytes.chunks(24).take(DRIVER_CHANNEL_CAPACITY) {
         if util::byte_at(record, 0) == 0 {
             break;
         }
         line.push(request_at(record));
     }
-    line
 }
 
 // ---- Which bytes are those of a line that fits the state
@@ -159,14 +158,16 @@ fn request_fits(s: State, q: Request, behind: &[Request]) -> bool
     requests::check_arrival(s, q, buffer, false, token).is_ok()
 }
 
-#[tactic(auto, unfolding(crate::specs::Valid::line_fits))]
+#[tactic(auto, unfolding(crate::specs::Valid::line_fits), using(crate::proofs::Loops::fits_turn))]
 fn line_fits(s: State, requests: &[Request]) -> bool
     ensures { result ≡ line_fits s requests.now }
 {
-    match requests.split_first() {
-        Some((q, behind)) => request_fits(s, *q, behind) && line_fits(s, behind),
-        None => true,
+    for (i, q) in requests.iter().enumerate() {
+        if !request_fits(s, *q, &requests[i + 1..]) {
+            return false;
+        }
     }
+    true
 }
 
 #[tactic(auto, using(state_bytes::proofs::Same::same_list_is))]
@@ -176,11 +177,12 @@ fn is_written_as(bytes: &[u8], line: &Line) -> bool
     encode(line).as_slice() == bytes
 }
 
-// The line that bytes are written as, if it fits the state; of other bytes (refusal 1) none.
-#[tactic(auto, unfolding(crate::specs::Valid::holds_line, crate::specs::Valid::decoded_line_of, crate::specs::Valid::decoded_line_refusal))]
-pub fn decode(s: State, bytes: &[u8]) -> Option<Line>
-    ensures { DecodesLine s bytes.now result }
+// Reads the line that bytes are written as, and says whether it fits the state; of other bytes (refusal 1) no.
+#[tactic(auto, unfolding(crate::specs::Valid::holds_line))]
+pub fn decode(s: State, bytes: &[u8], line: &mut Line) -> bool
+    ensures held { result ≡ holds_line s bytes.now }
+    ensures line { line.new ≡ line_at bytes.now }
 {
-    let line = line_at(bytes);
-    (line_fits(s, line.requests()) && is_written_as(bytes, &line)).then_some(line)
+    read_line(bytes, line);
+    line_fits(s, line.requests()) && is_written_as(bytes, line)
 }

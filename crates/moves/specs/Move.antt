@@ -68,7 +68,7 @@ told s (Err refusal) = refused_of s (refusal_number refusal)
 abbrev pub to_idle : Settings → Answers → Move
 to_idle set answers = accepted_of set (Wait.Asking Asked.Idle) Action.ReceiveRequest answers
 
--- "ask": the queue is asked for a request, which may be None
+-- "ask": the line is asked for a request, which may be None
 abbrev pub ask_any : Settings → Asked → Answers → Move
 ask_any set a answers = accepted_of set (Wait.Asking a) (Action.TryReceiveRequest TaskDirection.Any) answers
 

@@ -201,7 +201,7 @@ kept_after (t ∷ ts) m K = kept_after ts (after_call m t) (service_keeps m.stat
 
 -- ---- Start
 
-begun : (set : Settings) (n : ℕ) → settings_refusal set n ≡ 0 → LineKept (state_at set (Wait.Asking Asked.Idle)) [] (start_line_book set)
+pub begun : (set : Settings) (n : ℕ) → settings_refusal set n ≡ 0 → LineKept (state_at set (Wait.Asking Asked.Idle)) [] (start_line_book set)
 unfolding allowed_of
 begun set n ok =
     let K = started set (own_differ set n ok) in
@@ -242,7 +242,7 @@ begun set n ok =
 some_request : Request
 some_request = record { token = 0; start = Timestamp.BestEffort; buffer = 0; task = Task.Rx }
 
-sound : (m : ServiceMoment) → LineKept m.state m.line m.book → ServiceSound m
+pub sound : (m : ServiceMoment) → LineKept m.state m.line m.book → ServiceSound m
 sound m K =
     record {
       book = book_sound m.state m.line m.book K;

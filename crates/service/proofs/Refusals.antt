@@ -1,8 +1,9 @@
--- The first demand: the calls refuse by the documents' conditions, in their order, and a refused call changes nothing.
+-- The first demand: the calls refuse by the documents' conditions, in their order, and a refused call changes nothing. And which calls
+-- leave the line.
 -- Assumes nothing.
 use Prim.Native.Nat.{ℕ}
 use mathlib.Core.Path.{◌≡◌, refl, sym, ◌∙◌}
-use mathlib.Core.Bool.{Bool, true, false, cond, not, ◌&&◌, ◌||◌}
+use mathlib.Core.Bool.{Bool, true, false, true≢false, cond, not, ◌&&◌, ◌||◌}
 use mathlib.Core.List.{List, [], ◌∷◌}
 use lib.Dec.{eqb}
 use lib.ListN.{length}
@@ -21,8 +22,8 @@ use Rattle.engine.specs.Refusals.{fits, later_refusal, refusal_of, InOrder, no_r
 use Rattle.engine.proofs.Refusals.{in_order, refused_unchanged}
 use Rattle.waiting_line.specs.Line.{allows, is_tx, any_passes, earliest_of, names_tx}
 use Rattle.service.specs.declared.ServiceCall.{ServiceCall}
-use Rattle.service.specs.Service.{Served, refused_by, unless_refused, arrive_refusal, arrive_of, withdraw_refusal, withdraw_of, take_of, request_of, allowed_waits, none_of, outbound_seen_of, call_of, service_of}
-use Rattle.service.proofs.Cases.{Case, refused, on_line, given, taken, service_case}
+use Rattle.service.specs.Service.{Served, refused_by, unless_refused, arrive_refusal, arrive_of, withdraw_refusal, withdraw_of, take_of, request_of, allowed_waits, none_of, outbound_seen_of, call_of, service_of, changes_line, LineStays}
+use Rattle.service.proofs.Cases.{arrives, withdraws, Case, refused, on_line, given, taken, service_case}
 use Rattle.service.specs.Refusals.{is_asking, service_fits, service_later, service_refusal, ServiceInOrder, ServiceRefusedUnchanged}
 
 module _ (s : State) (qs : List Request) (pool : List ℕ) where
@@ -141,3 +142,17 @@ unfolding ServiceRefusedUnchanged
 service_refused_unchanged s qs pool c h =
     let u = case_same s qs pool c (service_of s qs pool c) (service_case s qs pool c) h in
     record { state = u.0.0; line = u.0.1; reply = u.1.0; pool_bytes = u.1.1 }
+
+-- ---- Which calls leave the line
+
+case_line : (s : State) (qs : List Request) (pool : List ℕ) (c : ServiceCall) (r : Served) → Case s qs pool c r → changes_line c ≡ false → r.line ≡ qs
+unfolding changes_line
+case_line s qs pool c r (refused x k e) h = refl
+case_line s qs pool c r (on_line x line (arrives q z)) h = absurd (true≢false h)
+case_line s qs pool c r (on_line x line (withdraws token z)) h = absurd (true≢false h)
+case_line s qs pool c r (given x d e g L) h = refl
+case_line s qs pool c r (taken a q w f) h = absurd (true≢false h)
+
+pub line_stays : LineStays
+unfolding LineStays
+line_stays s qs pool c h = case_line s qs pool c (service_of s qs pool c) (service_case s qs pool c) h

@@ -245,8 +245,9 @@ pub record ServiceSound (m : ServiceMoment) : Type 0 where
       (way_on_of m.state.set (is_empty m.line) (allowed_waits m.line m.state.wait) m.state.wait)).refusal
       ≡ 0
 
--- THE THIRD DEMAND ("The third demand's list takes in the calls on the line"), of what a start returned: if it was accepted, then after every list of the eleven calls, refused ones included, each
--- on the state and the line that the last one left and on a pool that holds anything, the book is sound. Every prefix of a list is a list.
+-- THE THIRD DEMAND ("The third demand's list takes in the calls on the line"), of what a start returned: if it was accepted, then after
+-- every list of the eleven calls, refused ones included, each on the state and the line that the last one left and on a pool that holds
+-- anything, the book is sound. Every prefix of a list is a list.
 unfoldable pub AlwaysServed : Settings → Served → Type 0
 AlwaysServed set r =
     r.refusal ≡ 0 →

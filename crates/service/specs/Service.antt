@@ -1,6 +1,6 @@
 -- Start and the eleven calls on state, line and pool: document 02, E1, over document 01's calls on a wait (crates/engine/specs/Step.antt).
 -- Assumes nothing.
-use Rattle.std.specs.Prelude.{ℕ, Bool, false, cond, not, ◌&&◌, ◌||◌, List, [], ◌∷◌, ◌++◌, eqb, leb, length, Option, Some, None}
+use Rattle.std.specs.Prelude.{ℕ, ◌≡◌, Bool, true, false, cond, not, ◌&&◌, ◌||◌, List, [], ◌∷◌, ◌++◌, eqb, leb, length, Option, Some, None}
 use Rattle.radio_frame.specs.declared.Settings.{Settings}
 use Rattle.radio_frame.specs.Settings.{settings_refusal}
 use Rattle.tasks.specs.declared.Asked.{Asked}
@@ -136,6 +136,38 @@ module _ (s : State) (qs : List Request) (pool : List ℕ) where
   -- 2 to 4 come before all others, in every call
   unfoldable pub service_of : ServiceCall → Served
   service_of c = unless_refused (settings_refusal s.set (length pool)) (call_of c)
+
+-- ---- The calls on the line, "Arrive" and "Withdraw"
+unfoldable pub is_on_line : ServiceCall → Bool
+is_on_line (ServiceCall.Arrive q) = true
+is_on_line (ServiceCall.Withdraw token) = true
+is_on_line ServiceCall.Request = false
+is_on_line ServiceCall.None = false
+is_on_line ServiceCall.FrameStart = false
+is_on_line (ServiceCall.OutboundSeen start cca) = false
+is_on_line (ServiceCall.Stopped r) = false
+is_on_line (ServiceCall.Header arrived length) = false
+is_on_line (ServiceCall.Entered r entry) = false
+is_on_line (ServiceCall.Fallback r cause) = false
+is_on_line ServiceCall.Rollback = false
+
+-- .. and with the one by which a request leaves, all that change the line (`LineStays`)
+unfoldable pub changes_line : ServiceCall → Bool
+changes_line (ServiceCall.Arrive q) = true
+changes_line (ServiceCall.Withdraw token) = true
+changes_line ServiceCall.Request = true
+changes_line ServiceCall.None = false
+changes_line ServiceCall.FrameStart = false
+changes_line (ServiceCall.OutboundSeen start cca) = false
+changes_line (ServiceCall.Stopped r) = false
+changes_line (ServiceCall.Header arrived length) = false
+changes_line (ServiceCall.Entered r entry) = false
+changes_line (ServiceCall.Fallback r cause) = false
+changes_line ServiceCall.Rollback = false
+
+unfoldable pub LineStays : Type 0
+LineStays =
+    (s : State) (qs : List Request) (pool : List ℕ) (c : ServiceCall) → changes_line c ≡ false → (service_of s qs pool c).line ≡ qs
 
 -- ---- "Start empties it"; a refused start keeps the line
 unfoldable pub service_start : Settings → List Request → List ℕ → Served

@@ -58,6 +58,13 @@ impl Line {
         }
     }
 
+    // No request waits any more.
+    pub fn clear(&mut self)
+        ensures { self.new ≡ [] }
+    {
+        self.len = 0;
+    }
+
     pub fn requests(&self) -> &[Request]
         ensures value { result.now ≡ self.now }
         ensures fits { length self.now ≤ 4 }

@@ -108,8 +108,9 @@ impl Air {
         others.any(|(_, other)| overlaps(other) && Self::loudness(other.from, to) >= loud)
     }
 
-    /// What a channel check finds.
-    pub fn is_busy(&self, now: u64) -> bool {
-        self.frames.iter().any(|frame| frame.begin <= now && now < frame.end)
+    /// What a channel check of this station finds: what others send.
+    pub fn is_busy(&self, now: u64, who: Who) -> bool {
+        let mut others = self.frames.iter().filter(|frame| frame.from != who);
+        others.any(|frame| frame.begin <= now && now < frame.end)
     }
 }

@@ -1,5 +1,5 @@
 //! Calls, actions, waits and senders in words.
-use crate::station::Sender;
+use crate::station::{Made, Sender, Wanted};
 use widosha::*;
 
 pub fn hex(bytes: &[u8]) -> String {
@@ -35,14 +35,28 @@ pub fn sender(sender: &Sender) -> String {
     }
 }
 
-pub fn call(call: &Call) -> String {
-    match call {
-        Call::Request(Request { task: Task::Rx, .. }) => "Request: receive".into(),
-        Call::Request(Request {
-            task: Task::Tx { length, .. },
-            ..
-        }) => format!("Request: send {length} bytes"),
-        Call::None => "None: no request waits".into(),
+/// A call, the action it gave (or, on the line, how many wait; or its refusal), and the wait that the service is then in.
+pub fn made(made: &Made, since: u64) -> String {
+    let what = match made.result {
+        Ok(reply) if reply.action == Action::Nothing => match made.line.len() {
+            1 => "1 waits".into(),
+            number => format!("{number} wait"),
+        },
+        Ok(reply) => action(&reply.action, since),
+        Err(Refusal::LineFull) => "refused by 12: four wait".into(),
+        Err(refusal) => refusal.to_string(),
+    };
+    format!("{:<26} -> {what:<34} [{}]", call(made, since), wait(made.wait))
+}
+
+pub fn call(made: &Made, since: u64) -> String {
+    let request = made.concerns.map_or("nothing".into(), |wanted| wanted_by(&wanted, since));
+    match &made.call {
+        Call::Arrive(_) => format!("Arrive: {request}"),
+        Call::Withdraw { .. } => format!("Withdraw: {request}"),
+        Call::Request => format!("Request: {request}"),
+        Call::None if made.line.is_empty() => "None: no request waits".into(),
+        Call::None => "None: none may go now".into(),
         Call::FrameStart => "FrameStart".into(),
         Call::OutboundSeen { .. } => "OutboundSeen".into(),
         Call::Stopped(StopResult::FrameStarted) => "Stopped: a frame started".into(),
@@ -51,6 +65,16 @@ pub fn call(call: &Call) -> String {
         Call::Entered { result, .. } => format!("Entered: {}", left(result)),
         Call::Fallback { .. } => "Fallback: channel busy".into(),
         Call::Rollback => "Rollback".into(),
+    }
+}
+
+/// What a host wants, in the fewest words.
+pub fn wanted_by(wanted: &Wanted, since: u64) -> String {
+    match wanted {
+        Wanted::Send(weighing) => format!("box {}", weighing.container),
+        Wanted::SendAt(weighing, time) => format!("box {} at {}", weighing.container, (time - since) / 1000),
+        Wanted::Report(..) => "report".into(),
+        Wanted::Receive => "receive".into(),
     }
 }
 
@@ -66,8 +90,9 @@ fn left(result: &TaskResult) -> String {
 
 pub fn action(action: &Action, since: u64) -> String {
     match action {
+        Action::Nothing => "nothing".into(),
         Action::ReceiveRequest => "wait for a request".into(),
-        Action::TryReceiveRequest(TaskDirection::Any) => "ask the queue".into(),
+        Action::TryReceiveRequest(TaskDirection::Any) => "ask the line".into(),
         Action::TryReceiveRequest(TaskDirection::Outbound) => "ask for the outbound one".into(),
         Action::Listen => "listen".into(),
         Action::Stop(StopListening::At(time)) => format!("stop listening at {}", (time - since) / 1000),

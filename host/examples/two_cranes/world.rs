@@ -1,6 +1,6 @@
 //! Time, the stations and what happens to them: the radios obey the actions, and their outcomes are the next calls.
 use crate::air::{Air, Flying, Who, BEFORE_BYTES, BYTE, MICROSECOND};
-use crate::station::{Link, Phase, Plan, Sender, Station, Told, Wanted, Weighed, Weighing};
+use crate::station::{Link, Made, Phase, Plan, Sender, Station, Told, Wanted, Weighed, Weighing};
 use crate::words;
 use std::collections::BTreeMap;
 use widosha::*;
@@ -13,8 +13,10 @@ const BACK_OFF: u64 = 4_000 * MICROSECOND;
 const HEADER: u16 = 9;
 
 pub enum Event {
-    /// A host queues something.
-    Queue(Who, Wanted),
+    /// A host wants something.
+    Want(Who, Wanted),
+    /// A host takes back what waits.
+    Withdraw(Who, Wanted),
     /// A device of another make sends.
     Send(Who, Vec<u8>),
     /// A frame begins to be heard.
@@ -42,6 +44,10 @@ pub struct World {
     pub answers: Vec<(Who, &'static str, Response)>,
     pub told: Vec<Told>,
     pub links: Vec<Link>,
+    /// What the hubs know of batteries.
+    pub charges: Vec<(Sender, u8)>,
+    /// Every call that was made, with its station.
+    pub calls: Vec<(Who, Made)>,
     pub show: Show,
 }
 
@@ -58,6 +64,8 @@ impl World {
             answers: Vec::new(),
             told: Vec::new(),
             links: Vec::new(),
+            charges: Vec::new(),
+            calls: Vec::new(),
             show: Show::Nothing,
         }
     }
@@ -71,7 +79,12 @@ impl World {
 
     /// Something is to happen so many microseconds into the scene.
     pub fn plan_event(&mut self, microseconds: u64, event: Event) {
-        self.put(self.since + microseconds * MICROSECOND, event);
+        self.put(self.at(microseconds), event);
+    }
+
+    /// The time so many microseconds into the scene.
+    pub fn at(&self, microseconds: u64) -> u64 {
+        self.since + microseconds * MICROSECOND
     }
 
     fn put(&mut self, time: u64, event: Event) {
@@ -84,7 +97,8 @@ impl World {
             self.now = time;
             assert!(time - self.since < 100_000 * MICROSECOND, "a scene comes to its end");
             match event {
-                Event::Queue(who, wanted) => self.queued(who, wanted),
+                Event::Want(who, wanted) => self.wanted(who, wanted),
+                Event::Withdraw(who, wanted) => self.withdrawn(who, wanted),
                 Event::Send(who, bytes) => {
                     self.transmit(who, bytes);
                 }
@@ -98,17 +112,31 @@ impl World {
         println!("{:>6}  {who:<9} {text}", (self.now - self.since) / MICROSECOND);
     }
 
-    fn queued(&mut self, who: Who, wanted: Wanted) {
-        let i = self
-            .stations
-            .iter()
+    fn station(&self, who: Who) -> usize {
+        let mut stations = self.stations.iter();
+        stations
             .position(|station| station.who == who)
-            .expect("only stations queue");
+            .expect("only stations have a host")
+    }
+
+    fn wanted(&mut self, who: Who, wanted: Wanted) {
+        let i = self.station(who);
         if matches!(wanted, Wanted::Send(weighing) if self.stations[i].unacknowledged == Some(weighing)) {
             self.show = Show::Nothing;
         }
-        self.stations[i].queue.push_back(wanted);
-        if matches!(self.stations[i].action, Action::ReceiveRequest | Action::Listen) {
+        self.stations[i].want(wanted);
+        self.line_changed(i);
+    }
+
+    fn withdrawn(&mut self, who: Who, wanted: Wanted) {
+        let i = self.station(who);
+        self.stations[i].withdraw(wanted);
+        self.line_changed(i);
+    }
+
+    /// After the host has called by itself: the radio has its action already, unless this led to a new one.
+    fn line_changed(&mut self, i: usize) {
+        if self.host_turns(i) {
             self.obey(i);
         }
     }
@@ -122,48 +150,50 @@ impl World {
 
     // ---- One call, and the radio's part
 
-    /// Makes a call, which must fit, prints it if it is to be shown, gives the answers to the host and obeys the action.
+    /// The radio makes a call, which must fit. Then the host has its turns, and the radio obeys the last action.
     fn call(&mut self, i: usize, call: Call) {
-        let station = &mut self.stations[i];
-        let before = station.driver.wait();
-        let reply = station
-            .driver
-            .step(call)
-            .expect("the radio and the host make no call that does not fit");
-        station.action = reply.action;
-        let who = station.who;
-        let ack_wait = matches!(before, Some(Wait::Entering(Transition::AckWait) | Wait::Stopping(_)))
-            || matches!(before, Some(Wait::Asking(Asked::ReceivingAck | Asked::AfterAckWindow)))
-            || matches!(before, Some(Wait::Entering(Transition::Request(Left::ReceivingAck, _))));
-        if self.show == Show::AllCallsOf(who) || self.show == Show::CallsOfAckWait(who) && ack_wait {
-            let action = words::action(&reply.action, self.since);
-            let wait = words::wait(self.stations[i].driver.wait());
-            self.say(who.name(), &format!("{:<26} -> {action:<34} [{wait}]", words::call(&call)));
-        }
-        for answer in reply.answers {
-            self.answered(i, answer);
-        }
+        let reply = self.stations[i].make(call);
+        reply.expect("the radio makes no call that does not fit");
+        self.host_turns(i);
         self.obey(i);
     }
 
-    /// Does what can be done at once, and for the rest settles when it is due.
+    /// The host's turns, each after the answers of the calls before it. Says whether there is a new action for the radio.
+    fn host_turns(&mut self, i: usize) -> bool {
+        let mut new_action = false;
+        self.tell(i);
+        while self.stations[i].host_turn() {
+            new_action = true;
+            self.tell(i);
+        }
+        // Requests that were kept back may have arrived in the last turn too.
+        self.tell(i);
+        new_action
+    }
+
+    /// Prints the calls that are to be shown and gives their answers to the host.
+    fn tell(&mut self, i: usize) {
+        let who = self.stations[i].who;
+        for made in std::mem::take(&mut self.stations[i].journal) {
+            let ack_wait = matches!(made.found, Some(Wait::Entering(Transition::AckWait) | Wait::Stopping(_)))
+                || matches!(made.found, Some(Wait::Asking(Asked::ReceivingAck | Asked::AfterAckWindow)))
+                || matches!(made.found, Some(Wait::Entering(Transition::Request(Left::ReceivingAck, _))));
+            let shown = self.show == Show::AllCallsOf(who) || self.show == Show::CallsOfAckWait(who) && ack_wait;
+            // None is then the call that is shown.
+            if shown && made.result != Err(Refusal::NotAllowed) {
+                self.say(who.name(), &words::made(&made, self.since));
+            }
+            for answer in made.result.map_or(Answers::None, |reply| reply.answers) {
+                self.answered(i, answer);
+            }
+            self.calls.push((who, made));
+        }
+    }
+
+    /// The radio's part: does what can be done at once, and for the rest settles when it is due.
     fn obey(&mut self, i: usize) {
         let action = self.stations[i].action;
         match action {
-            Action::ReceiveRequest => {
-                if let Some(call) = self.stations[i].next_request(TaskDirection::Any) {
-                    self.call(i, call);
-                }
-            }
-            Action::TryReceiveRequest(direction) => {
-                let call = self.stations[i].next_request(direction).unwrap_or(Call::None);
-                self.call(i, call);
-            }
-            Action::Listen if self.stations[i].has_outbound() => {
-                let (start, cca) = (Timestamp::BestEffort, true);
-                self.call(i, Call::OutboundSeen { start, cca });
-            }
-            Action::Listen => {}
             Action::Stop(StopListening::At(time)) => self.put(time, Event::Due(i, action)),
             Action::Stop(_) => self.stop(i),
             Action::ReadHeader => {
@@ -172,6 +202,8 @@ impl World {
                 self.put(time, Event::Due(i, action));
             }
             Action::Tx { .. } | Action::Rx { .. } | Action::Off { .. } => self.schedule(i, action),
+            // The host has given what it had, or a frame has to come.
+            Action::ReceiveRequest | Action::TryReceiveRequest(_) | Action::Listen | Action::Nothing => {}
         }
     }
 
@@ -197,7 +229,7 @@ impl World {
         self.call(i, Call::Stopped(outcome));
     }
 
-    /// The radio leaves its present task when that has ended, and enters the next one after the spacing.
+    /// The radio leaves its present task when that has ended, and enters the next one after the spacing, or at its time.
     fn schedule(&mut self, i: usize, action: Action) {
         let (spacing, rollback) = match action {
             Action::Tx { spacing, rollback, .. } | Action::Rx { spacing, rollback, .. } => (spacing, rollback),
@@ -208,14 +240,25 @@ impl World {
             Spacing::After(Ifs::Aifs | Ifs::Sifs) => 192 * MICROSECOND,
             Spacing::After(Ifs::Lifs) => 640 * MICROSECOND,
         };
-        self.stations[i].clear = !self.air.is_busy(self.now);
-        let time = match self.stations[i].phase {
+        let earliest = match self.stations[i].phase {
             Phase::Off => self.now + TURNAROUND,
             Phase::Sending { end, .. } => end + pause,
             Phase::Receiving(id) if rollback && self.air.spoiled(id, self.stations[i].who) => self.air.frames[id].end,
             Phase::Receiving(id) => self.air.frames[id].end + pause,
             Phase::Listening => panic!("the driver stops listening before it goes on"),
         };
+        let time = match action {
+            Action::Tx {
+                start: Timestamp::Scheduled(time),
+                ..
+            }
+            | Action::Rx {
+                start: Timestamp::Scheduled(time),
+                ..
+            } => time,
+            _ => earliest,
+        };
+        assert!(earliest <= time, "the times that the hub keeps free can be kept");
         self.put(time, Event::Due(i, action));
     }
 
@@ -266,7 +309,9 @@ impl World {
         let station = &mut self.stations[i];
         match station.action {
             Action::Tx { buffer, length, cca, .. } => {
-                if cca && !station.clear {
+                // The channel is checked when the radio begins to turn to sending.
+                if cca && self.air.is_busy(entry - TURNAROUND, station.who) {
+                    station.phase = Phase::Off;
                     let cause = Cause::Task;
                     return self.call(i, Call::Fallback { result, cause });
                 }
@@ -321,20 +366,25 @@ impl World {
 
     /// A cell drops a weighing that was sent, and keeps every other. A hub hands the mass to the plan and receives on.
     fn answered(&mut self, i: usize, answer: Answer) {
-        let wanted = self.stations[i].close(&answer);
+        let wanted = self.stations[i].close(answer.token, answer.buffer);
         let who = self.stations[i].who;
         match wanted {
-            Wanted::Send(weighing) => self.cell_host(i, weighing, answer.response),
+            Wanted::Send(weighing) | Wanted::SendAt(weighing, _) => self.cell_host(i, weighing, answer.response),
+            Wanted::Report(..) => {
+                assert!(matches!(answer.response, Response::Sent { .. }), "the report needs no ACK");
+                self.say(who.name(), "ANSWER Sent: the report, for which no ACK is wanted.");
+            }
             Wanted::Receive => {
                 if let Some((link, message)) = self.message(i, &answer) {
                     self.links.push(link);
                     match message {
                         Message::Weighing(container, weighed) => self.hand_to_plan(&link, container, weighed),
                         Message::Time(tenths, info) => self.tell_time(&link, tenths, info),
+                        Message::Report(charge) => self.tell_charge(&link, charge),
                     }
                 }
                 if matches!(who, Who::HubA | Who::HubB) {
-                    self.stations[i].queue.push_back(Wanted::Receive);
+                    self.stations[i].want(Wanted::Receive);
                 }
             }
         }
@@ -376,6 +426,15 @@ impl World {
         });
     }
 
+    fn tell_charge(&mut self, link: &Link, charge: u8) {
+        let (cell, quality) = (words::sender(&link.from), words::quality(link.quality));
+        self.say(
+            link.to.name(),
+            &format!("the battery of cell {cell} has {charge} %, {quality}"),
+        );
+        self.charges.push((link.from, charge));
+    }
+
     fn cell_host(&mut self, i: usize, weighing: Weighing, response: Response) {
         let who = self.stations[i].who;
         let container = weighing.container;
@@ -391,9 +450,10 @@ impl World {
         };
         self.say(who.name(), &words);
         if matches!(response, Response::Sent { .. }) {
-            self.stations[i].unacknowledged = None;
+            let station = &mut self.stations[i];
+            station.unacknowledged = station.unacknowledged.filter(|last| *last != weighing);
         } else {
-            self.put(self.now + BACK_OFF, Event::Queue(who, Wanted::Send(weighing)));
+            self.put(self.now + BACK_OFF, Event::Want(who, Wanted::Send(weighing)));
         }
     }
 }
@@ -408,16 +468,20 @@ pub fn sender_of(info: &PreliminaryFrameInfo) -> Sender {
 enum Message {
     Weighing(String, Weighed),
     Time(u32, PreliminaryFrameInfo),
+    Report(u8),
 }
 
 /// What a host reads in a frame: sender and receiver from its header, and from where the address fields end the time, if it is for
-/// everyone, else container and mass.
+/// everyone, the charge of a battery, if that is a single byte, else container and mass.
 fn read_message(received: Received) -> Message {
     let payload = received.after_addressing().expect("a whole frame has its address fields");
     let to = received.info.addressing_fields.map(|fields| fields.dst_address);
     if to == Some(Address::Short(0xFFFF)) {
         let tenths = u32::from_le_bytes(payload.try_into().expect("four bytes"));
         return Message::Time(tenths, received.info);
+    }
+    if let [charge] = payload {
+        return Message::Report(*charge);
     }
     let by = sender_of(&received.info);
     let container = String::from_utf8_lossy(&payload[..2]).into_owned();

@@ -1,9 +1,18 @@
 //! The choice of settings, calls and pool bytes: mostly what fits the wait, often around the limits, sometimes anything.
 use super::frames;
 use super::random::Rng;
-use crate::model::calls::{Raw, RawStart};
+use crate::model::calls::{Raw, RawStart, Request, Start};
 use crate::model::engine::{Left, Next, State, Wait};
 use crate::model::header::Control;
+use crate::model::line::Line;
+
+/// What a call or a poke is chosen for: state and line as the model reads them, and the pool.
+#[derive(Clone, Copy)]
+pub struct Now<'a> {
+    pub state: &'a State,
+    pub line: &'a Line,
+    pub pool: &'a [u8],
+}
 
 /// A hardware address; now and then one that ends as the broadcast address, or is nothing but FF.
 fn hardware(rng: &mut Rng) -> u64 {
@@ -14,13 +23,13 @@ fn hardware(rng: &mut Rng) -> u64 {
     }
 }
 
-/// Settings that start accepts.
+/// Settings that start accepts. Eight buffers are enough for two own ones, two requests that have left and four that wait.
 pub fn settings(rng: &mut Rng) -> RawStart {
     let count = match rng.below(10) {
         0 => 3,
         1 => 32,
         2 => 3 + rng.below(30) as u8,
-        _ => 4 + rng.below(4) as u8,
+        _ => 5 + rng.below(6) as u8,
     };
     let ack = rng.below(usize::from(count)) as u8;
     let spare = (usize::from(ack) + 1 + rng.below(usize::from(count) - 1)) % usize::from(count);
@@ -80,21 +89,31 @@ fn code(rng: &mut Rng, fits: u8) -> u8 {
     }
 }
 
-fn token(rng: &mut Rng, state: &State) -> u32 {
-    match rng.below(20) {
-        0 => state.wait.open()[rng.below(2)].map_or(9, |open| open.0),
-        1..=12 => rng.pick(&[0, 1, 2, 3, 7, u32::MAX, 0x8000_0000, 0x0102_0304]),
+/// The tokens of unanswered requests that have left the line.
+fn left(now: Now) -> Vec<u32> {
+    now.state.wait.open().iter().flatten().map(|open| open.0).collect()
+}
+
+/// A token: mostly one that is not in use, now and then one that is.
+fn token(rng: &mut Rng, now: Now) -> u32 {
+    let (left, waiting) = (left(now), &now.line.0);
+    let small = rng.pick(&[0, 1, 2, 3, 7, u32::MAX, 0x8000_0000, 0x0102_0304]);
+    match rng.below(40) {
+        0 if !left.is_empty() => rng.pick(&left),
+        1 | 2 if !waiting.is_empty() => rng.pick(waiting).token(),
+        3..=22 if !left.contains(&small) && now.line.place_of(small).is_none() => small,
         _ => rng.number() as u32,
     }
 }
 
-fn buffer(rng: &mut Rng, state: &State) -> u8 {
-    let count = state.settings.count;
-    let own = [state.settings.ack, state.settings.spare];
-    let open = state.wait.open();
-    let held = |b: u8| own.contains(&b) || open.iter().flatten().any(|open| open.1 == b);
+/// A buffer: mostly one that is not held, if there is one.
+fn buffer(rng: &mut Rng, now: Now) -> u8 {
+    let count = now.state.settings.count;
+    let own = [now.state.settings.ack, now.state.settings.spare];
+    let open = now.state.wait.open();
+    let held = |b: u8| own.contains(&b) || open.iter().flatten().any(|open| open.1 == b) || now.line.holds(b);
     let free: Vec<u8> = (0..count).filter(|b| !held(*b)).collect();
-    match rng.below(20) {
+    match rng.below(30) {
         0 => rng.pick(&[count, count - 1, 255, own[0], own[1]]),
         1 => rng.byte(),
         _ if free.is_empty() => rng.below(usize::from(count)) as u8,
@@ -113,31 +132,85 @@ fn tx_length(rng: &mut Rng, state: &State) -> u16 {
     }
 }
 
-/// A request, mostly of a direction and start that the wait takes.
-pub fn request(rng: &mut Rng, state: &State) -> Raw {
-    let direction = match state.wait {
-        Wait::AfterWindow(_) => u8::from(rng.chance(10)),
-        Wait::Receiving(..) | Wait::Idle => u8::from(rng.chance(50)),
-        _ => u8::from(rng.chance(35)),
-    };
-    let best_effort_only = match state.wait {
-        Wait::Sending(_) | Wait::SendingAck(_) => true,
-        Wait::Idle | Wait::AfterWindow(_) => false,
-        _ => direction == 1,
-    };
-    let timed = if best_effort_only { rng.chance(10) } else { rng.chance(50) };
-    Raw::Request {
-        token: token(rng, state),
-        direction: code(rng, direction),
+/// An arrival, of any direction and start in every wait.
+pub fn arrive(rng: &mut Rng, now: Now) -> Raw {
+    let (direction, timed, cca) = (rng.chance(45), rng.chance(40), rng.chance(50));
+    Raw::Arrive {
+        token: token(rng, now),
+        direction: code(rng, u8::from(direction)),
         start: code(rng, u8::from(timed)),
         time: time(rng),
-        buffer: buffer(rng, state),
-        length: tx_length(rng, state),
-        cca: {
-            let cca = u8::from(rng.chance(50));
-            code(rng, cca)
-        },
+        buffer: buffer(rng, now),
+        length: tx_length(rng, now.state),
+        cca: code(rng, u8::from(cca)),
     }
+}
+
+/// A withdrawal: mostly of one that waits; while the stop after OutboundSeen or its ask is open, often of the named Tx.
+pub fn withdraw(rng: &mut Rng, now: Now) -> Raw {
+    let open = matches!(now.state.wait, Wait::StopForOutbound(_) | Wait::AfterWindow(_));
+    let (left, waiting) = (left(now), &now.line.0);
+    let token = match (rng.below(10), now.line.earliest_tx()) {
+        (0, _) if !left.is_empty() => rng.pick(&left),
+        (0 | 1, _) => token(rng, now),
+        (2..=5, Some(named)) if open => named.token(),
+        _ if waiting.is_empty() => token(rng, now),
+        _ => rng.pick(waiting).token(),
+    };
+    Raw::Withdraw { token }
+}
+
+/// Arrivals in a hundred calls, by how many wait, so that the line is now empty, now full.
+const ARRIVALS: [usize; 5] = [24, 20, 18, 16, 12];
+/// The same for withdrawals.
+const WITHDRAWALS: [usize; 5] = [1, 3, 3, 4, 6];
+
+/// The line's share of the calls that fit, in every wait.
+fn on_the_line(rng: &mut Rng, now: Now) -> Option<Raw> {
+    let waiting = now.line.0.len();
+    match rng.below(100) {
+        below if below < ARRIVALS[waiting] => Some(arrive(rng, now)),
+        below if below < ARRIVALS[waiting] + WITHDRAWALS[waiting] => Some(withdraw(rng, now)),
+        _ => None,
+    }
+}
+
+/// A wait that asks: what fits the line, mostly.
+fn asked(rng: &mut Rng, now: Now, leaves: Option<usize>) -> Raw {
+    let takes_none = !matches!(now.state.wait, Wait::Idle | Wait::AfterWindow(_));
+    match (leaves, rng.below(20)) {
+        (Some(_), 0) | (None, 1) => Raw::None,
+        (Some(_), _) | (None, 0) => Raw::Request,
+        (None, 2..) if takes_none => Raw::None,
+        _ => arrive(rng, now),
+    }
+}
+
+/// Mostly with start and flag of the line's earliest Tx, now and then with another's, or with one of them changed.
+fn outbound_seen(rng: &mut Rng, now: Now) -> Raw {
+    let seen = match now.line.earliest_tx() {
+        Some(_) if rng.chance(8) => rng.pick(&now.line.0),
+        Some(earliest) => *earliest,
+        None => Request::Tx {
+            token: 0,
+            start: rng.pick(&[Start::BestEffort, Start::At(7)]),
+            buffer: 0,
+            length: 3,
+            check: rng.chance(50),
+        },
+    };
+    let (mut start, mut time) = match seen.start() {
+        Start::BestEffort => (0, time(rng)),
+        Start::At(time) => (1, time),
+    };
+    let mut cca = u8::from(matches!(seen, Request::Tx { check: true, .. }));
+    match rng.below(20) {
+        0 => start = 1 - start,
+        1 => time ^= 1 << rng.below(64),
+        2 => cca = 1 - cca,
+        _ => {}
+    }
+    Raw::outbound_seen(code(rng, start), time, code(rng, cca))
 }
 
 /// A length of a received frame.
@@ -210,47 +283,47 @@ fn stopped(rng: &mut Rng, state: &State, fits: &[u8]) -> Raw {
     Raw::stopped(outcome, length, time(rng), quality(rng))
 }
 
-/// A call that mostly fits the wait.
-pub fn fitting(rng: &mut Rng, state: &State, pool: &[u8]) -> Raw {
+/// A call that mostly fits the wait; with it the line changes, in every wait.
+pub fn fitting(rng: &mut Rng, now: Now) -> Raw {
+    if let Some(raw) = on_the_line(rng, now) {
+        return raw;
+    }
+    let Now { state, line, pool } = now;
+    if let Some(leaves) = state.leaves(line) {
+        return asked(rng, now, leaves);
+    }
     match &state.wait {
-        Wait::Idle | Wait::AfterWindow(_) => request(rng, state),
-        Wait::AfterAckWindow(..) | Wait::Receiving(..) | Wait::Sending(_) | Wait::SendingAck(_) | Wait::ReceivingAck(_) => {
-            if rng.chance(30) {
-                Raw::None
-            } else {
-                request(rng, state)
-            }
-        }
         Wait::Change(left, next) => change(rng, state, left, next),
         Wait::AckTurn(..) if rng.chance(25) => Raw::Rollback,
         Wait::Rearm(rx) | Wait::AckTurn(rx, _) => change(rng, state, &Left::Receiving(*rx), &Next::Rx(*rx)),
         Wait::TurnToAck(tx, _) => change(rng, state, &Left::Sending(*tx), &Next::Tx(*tx, None)),
-        Wait::Listening(_) if rng.chance(60) => Raw::FrameStart,
-        Wait::Listening(_) => {
-            let (start, cca) = (rng.below(2) as u8, rng.below(2) as u8);
-            Raw::outbound_seen(code(rng, start), time(rng), code(rng, cca))
-        }
+        Wait::Listening(_) if rng.chance(if line.earliest_tx().is_some() { 50 } else { 90 }) => Raw::FrameStart,
         Wait::StopForFrame(_) => stopped(rng, state, &[0]),
         Wait::StopForOutbound(_) => stopped(rng, state, &[0, 1, 2, 3, 4]),
         Wait::StopForAck(_) => stopped(rng, state, &[0, 0, 0, 1, 1, 2, 3, 4]),
         Wait::StopForAckAgain(_) => stopped(rng, state, &[0, 0, 2, 3, 4]),
         Wait::ReadingHeader(rx) => header(rng, state, rx.buffer, pool),
+        // Listening; all others ask.
+        _ => outbound_seen(rng, now),
     }
 }
 
-/// Any of the nine calls with numbers that are often codes.
-pub fn any(rng: &mut Rng, state: &State) -> Raw {
+/// Any of the eleven calls with numbers that are often codes.
+pub fn any(rng: &mut Rng, now: Now) -> Raw {
     let small = |rng: &mut Rng| if rng.chance(90) { rng.below(6) as u8 } else { rng.byte() };
-    let length = received_length(rng, state, true);
-    match rng.below(9) {
-        0 => request(rng, state),
-        1 => Raw::None,
-        2 => Raw::FrameStart,
-        3 => Raw::outbound_seen(small(rng), time(rng), small(rng)),
-        4 => Raw::stopped(small(rng), length, time(rng), quality(rng)),
-        5 => Raw::header(length, rng.number() as u16),
-        6 => Raw::entered(small(rng), length, time(rng), time(rng), quality(rng)),
-        7 => Raw::fallback(small(rng), length, time(rng), small(rng), time(rng), quality(rng)),
+    let length = received_length(rng, now.state, true);
+    match rng.below(12) {
+        0 => arrive(rng, now),
+        1 => withdraw(rng, now),
+        2 => Raw::Request,
+        3 => Raw::None,
+        4 => Raw::FrameStart,
+        5 => Raw::outbound_seen(small(rng), time(rng), small(rng)),
+        6 => outbound_seen(rng, now),
+        7 => Raw::stopped(small(rng), length, time(rng), quality(rng)),
+        8 => Raw::header(length, rng.number() as u16),
+        9 => Raw::entered(small(rng), length, time(rng), time(rng), quality(rng)),
+        10 => Raw::fallback(small(rng), length, time(rng), small(rng), time(rng), quality(rng)),
         _ => Raw::Rollback,
     }
 }
@@ -259,8 +332,8 @@ pub fn any(rng: &mut Rng, state: &State) -> Raw {
 pub type Poke = (usize, Vec<u8>);
 
 /// What host and radio may put into the pool before the next call.
-pub fn poke(rng: &mut Rng, state: &State) -> Poke {
-    let settings = &state.settings;
+pub fn poke(rng: &mut Rng, now: Now) -> Poke {
+    let (state, settings) = (now.state, &now.state.settings);
     let some_buffer = rng.below(usize::from(settings.count)) as u8;
     match rng.below(40) {
         0 => {
@@ -269,6 +342,11 @@ pub fn poke(rng: &mut Rng, state: &State) -> Poke {
             return (144 * usize::from(some_buffer), bytes);
         }
         1 | 2 => return (rng.below(settings.pool_length()), vec![rng.byte()]),
+        // The host changes a frame that waits.
+        3..=6 if !now.line.0.is_empty() => {
+            let waiting = rng.pick(&now.line.0);
+            return (settings.frame(waiting.buffer()), frames::outbound(rng));
+        }
         _ => {}
     }
     match &state.wait {

@@ -7,6 +7,7 @@ use crate::model::export;
 pub struct Pair {
     library: Slices,
     state: Vec<u8>,
+    line: Vec<u8>,
     reply: Vec<u8>,
     pool: Vec<u8>,
 }
@@ -17,9 +18,12 @@ pub fn before(at: usize) -> u8 {
 }
 
 fn difference(name: &str, library: &[u8], model: &[u8]) -> Option<String> {
+    if library == model {
+        return None;
+    }
     let at = (0..model.len()).find(|at| library[*at] != model[*at])?;
     let count = (0..model.len()).filter(|at| library[*at] != model[*at]).count();
-    let bytes = if model.len() <= 64 {
+    let bytes = if model.len() <= 96 {
         format!("\n  library {library:02x?}\n  model   {model:02x?}")
     } else {
         String::new()
@@ -58,19 +62,20 @@ pub fn must_read(slices: &mut FrameSlices) -> u8 {
 }
 
 impl Pair {
-    pub fn new(state: &[u8], reply: &[u8], pool: &[u8]) -> Pair {
+    pub fn new(state: &[u8], line: &[u8], reply: &[u8], pool: &[u8]) -> Pair {
         Pair {
-            library: Slices::new(state, reply, pool),
+            library: Slices::new(state, line, reply, pool),
             state: state.to_vec(),
+            line: line.to_vec(),
             reply: reply.to_vec(),
             pool: pool.to_vec(),
         }
     }
 
     /// With a reply slice of the right length, filled with something.
-    pub fn on(state: &[u8], pool: &[u8]) -> Pair {
+    pub fn on(state: &[u8], line: &[u8], pool: &[u8]) -> Pair {
         let reply: Vec<u8> = (0..48).map(before).collect();
-        Pair::new(state, &reply, pool)
+        Pair::new(state, line, &reply, pool)
     }
 
     /// The library gets a null pointer for each slice of length 0.
@@ -82,6 +87,10 @@ impl Pair {
     /// The state slice as the library left it.
     pub fn state(&self) -> &[u8] {
         self.library.state.get()
+    }
+
+    pub fn line(&self) -> &[u8] {
+        self.library.line.get()
     }
 
     pub fn reply(&self) -> &[u8] {
@@ -98,10 +107,12 @@ impl Pair {
         self.pool[at..at + bytes.len()].copy_from_slice(bytes);
     }
 
-    /// Other bytes in the state slice.
-    pub fn set_state(&mut self, state: &[u8]) {
+    /// Other bytes in state slice and line slice.
+    pub fn set(&mut self, state: &[u8], line: &[u8]) {
         self.library.state.get_mut().copy_from_slice(state);
         self.state.copy_from_slice(state);
+        self.library.line.get_mut().copy_from_slice(line);
+        self.line.copy_from_slice(line);
     }
 
     fn refill_reply(&mut self) {
@@ -113,10 +124,20 @@ impl Pair {
         }
     }
 
+    /// The model's slices.
+    fn of_model(&mut self) -> export::Slices<'_> {
+        export::Slices {
+            state: &mut self.state,
+            line: &mut self.line,
+            reply: &mut self.reply,
+            pool: &mut self.pool,
+        }
+    }
+
     pub fn start(&mut self, raw: &RawStart) -> Result<u8, String> {
         self.refill_reply();
         let library = self.library.start(raw);
-        let model = export::start(raw, &mut self.state, &mut self.reply, &mut self.pool);
+        let model = export::start(raw, self.of_model());
         self.compare(library, model)
     }
 
@@ -124,29 +145,43 @@ impl Pair {
     pub fn call(&mut self, raw: &Raw) -> Result<u8, String> {
         self.refill_reply();
         let library = self.library.call(raw);
-        let model = export::call(raw, &mut self.state, &mut self.reply, &mut self.pool);
+        let model = export::call(raw, self.of_model());
         self.compare(library, model)
     }
 
     fn compare(&self, library: u8, model: u8) -> Result<u8, String> {
         if !self.library.intact() {
-            return Err("a byte outside the three slices was written".to_string());
+            return Err("a byte outside the four slices was written".to_string());
         }
         let slices = [
-            difference("state", self.library.state.get(), &self.state),
-            difference("reply", self.library.reply.get(), &self.reply),
-            difference("pool", self.library.pool.get(), &self.pool),
+            difference("state", self.state(), &self.state),
+            difference("line", self.line(), &self.line),
+            difference("reply", self.reply(), &self.reply),
+            difference("pool", self.pool(), &self.pool),
         ];
         agreed(library, model, slices)
     }
 
+    /// What the library alone returns for a call that writes no byte of the pool; state, line and reply are put back after it.
+    pub fn tries(&mut self, raw: &Raw) -> u8 {
+        let before = [self.state(), self.line(), self.reply()].concat();
+        let returned = self.library.call(raw);
+        let mut before = before.as_slice();
+        for slice in [&mut self.library.state, &mut self.library.line, &mut self.library.reply] {
+            let (bytes, rest) = before.split_at(slice.len());
+            slice.get_mut().copy_from_slice(bytes);
+            before = rest;
+        }
+        returned
+    }
+
     /// As `call`, where a difference ends the test.
     pub fn must(&mut self, raw: &Raw) -> u8 {
-        let state = self.state.clone();
+        let (state, line) = (self.state.clone(), self.line.clone());
         let found: Vec<u8> = self.pool.clone();
         self.call(raw).unwrap_or_else(|different| {
             panic!(
-                "{different}\ncall {raw:?}\nbefore it:\n  state {state:02x?}\n  pool, {} bytes, {found:02x?}",
+                "{different}\ncall {raw:?}\nbefore it:\n  state {state:02x?}\n  line {line:02x?}\n  pool, {} bytes, {found:02x?}",
                 found.len()
             )
         })

@@ -43,10 +43,11 @@ impl Guarded {
     }
 }
 
-/// State, reply and pool.
+/// State, line, reply and pool.
 #[derive(Clone, Debug)]
 pub struct Slices {
     pub state: Guarded,
+    pub line: Guarded,
     pub reply: Guarded,
     pub pool: Guarded,
     /// Whether a slice of length 0 is passed as a null pointer.
@@ -54,9 +55,10 @@ pub struct Slices {
 }
 
 impl Slices {
-    pub fn new(state: &[u8], reply: &[u8], pool: &[u8]) -> Slices {
+    pub fn new(state: &[u8], line: &[u8], reply: &[u8], pool: &[u8]) -> Slices {
         Slices {
             state: Guarded::new(state),
+            line: Guarded::new(line),
             reply: Guarded::new(reply),
             pool: Guarded::new(pool),
             null_if_empty: false,
@@ -64,32 +66,26 @@ impl Slices {
     }
 
     pub fn intact(&self) -> bool {
-        self.state.intact() && self.reply.intact() && self.pool.intact()
+        [&self.state, &self.line, &self.reply, &self.pool]
+            .iter()
+            .all(|slice| slice.intact())
     }
 
-    /// The three pointers with their lengths.
-    fn parts(&mut self) -> (*mut u8, usize, *mut u8, usize, *mut u8, usize) {
+    /// The four pointers, each with its length.
+    fn parts(&mut self) -> [(*mut u8, usize); 4] {
         let null_if_empty = self.null_if_empty;
-        let pointer = |slice: &mut [u8]| {
+        [&mut self.state, &mut self.line, &mut self.reply, &mut self.pool].map(|slice| {
+            let slice = slice.get_mut();
             if null_if_empty && slice.is_empty() {
-                std::ptr::null_mut()
+                (std::ptr::null_mut(), 0)
             } else {
-                slice.as_mut_ptr()
+                (slice.as_mut_ptr(), slice.len())
             }
-        };
-        let (state, reply, pool) = (self.state.get_mut(), self.reply.get_mut(), self.pool.get_mut());
-        (
-            pointer(state),
-            state.len(),
-            pointer(reply),
-            reply.len(),
-            pointer(pool),
-            pool.len(),
-        )
+        })
     }
 
     pub fn start(&mut self, raw: &RawStart) -> u8 {
-        let (s, sl, r, rl, p, pl) = self.parts();
+        let [(s, sl), (l, ll), (r, rl), (p, pl)] = self.parts();
         let RawStart {
             count,
             headroom,
@@ -105,7 +101,7 @@ impl Slices {
             spare_buffer,
             ..
         } = *raw;
-        // SAFETY: the pointers come from three separate vectors, with their lengths, or are null with length 0.
+        // SAFETY: the pointers come from four separate vectors, with their lengths, or are null with length 0.
         unsafe {
             ffi::widosha_start(
                 count,
@@ -119,6 +115,8 @@ impl Slices {
                 spare_buffer,
                 s,
                 sl,
+                l,
+                ll,
                 r,
                 rl,
                 p,
@@ -128,11 +126,11 @@ impl Slices {
     }
 
     pub fn call(&mut self, raw: &Raw) -> u8 {
-        let (s, sl, r, rl, p, pl) = self.parts();
-        // SAFETY: the pointers come from three separate vectors, with their lengths, or are null with length 0.
+        let [(s, sl), (l, ll), (r, rl), (p, pl)] = self.parts();
+        // SAFETY: the pointers come from four separate vectors, with their lengths, or are null with length 0.
         unsafe {
             match *raw {
-                Raw::Request {
+                Raw::Arrive {
                     token,
                     direction,
                     start,
@@ -140,24 +138,26 @@ impl Slices {
                     buffer,
                     length,
                     cca,
-                } => ffi::widosha_request(token, direction, start, time, buffer, length, cca, s, sl, r, rl, p, pl),
-                Raw::None => ffi::widosha_none(s, sl, r, rl, p, pl),
-                Raw::FrameStart => ffi::widosha_frame_start(s, sl, r, rl, p, pl),
-                Raw::OutboundSeen { start, time, cca } => ffi::widosha_outbound_seen(start, time, cca, s, sl, r, rl, p, pl),
+                } => ffi::widosha_arrive(token, direction, start, time, buffer, length, cca, s, sl, l, ll, r, rl, p, pl),
+                Raw::Withdraw { token } => ffi::widosha_withdraw(token, s, sl, l, ll, r, rl, p, pl),
+                Raw::Request => ffi::widosha_request(s, sl, l, ll, r, rl, p, pl),
+                Raw::None => ffi::widosha_none(s, sl, l, ll, r, rl, p, pl),
+                Raw::FrameStart => ffi::widosha_frame_start(s, sl, l, ll, r, rl, p, pl),
+                Raw::OutboundSeen { start, time, cca } => ffi::widosha_outbound_seen(start, time, cca, s, sl, l, ll, r, rl, p, pl),
                 Raw::Stopped {
                     outcome,
                     length,
                     time,
                     quality,
-                } => ffi::widosha_stopped(outcome, length, time, quality, s, sl, r, rl, p, pl),
-                Raw::Header { arrived, length } => ffi::widosha_header(arrived, length, s, sl, r, rl, p, pl),
+                } => ffi::widosha_stopped(outcome, length, time, quality, s, sl, l, ll, r, rl, p, pl),
+                Raw::Header { arrived, length } => ffi::widosha_header(arrived, length, s, sl, l, ll, r, rl, p, pl),
                 Raw::Entered {
                     result,
                     length,
                     time,
                     entry,
                     quality,
-                } => ffi::widosha_entered(result, length, time, entry, quality, s, sl, r, rl, p, pl),
+                } => ffi::widosha_entered(result, length, time, entry, quality, s, sl, l, ll, r, rl, p, pl),
                 Raw::Fallback {
                     result,
                     length,
@@ -165,8 +165,8 @@ impl Slices {
                     cause,
                     cause_time,
                     quality,
-                } => ffi::widosha_fallback(result, length, time, cause, cause_time, quality, s, sl, r, rl, p, pl),
-                Raw::Rollback => ffi::widosha_rollback(s, sl, r, rl, p, pl),
+                } => ffi::widosha_fallback(result, length, time, cause, cause_time, quality, s, sl, l, ll, r, rl, p, pl),
+                Raw::Rollback => ffi::widosha_rollback(s, sl, l, ll, r, rl, p, pl),
             }
         }
     }

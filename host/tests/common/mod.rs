@@ -6,6 +6,7 @@ pub mod choose;
 pub mod compare;
 pub mod frames;
 pub mod library;
+pub mod met;
 pub mod random;
 pub mod reached;
 pub mod run;

@@ -1,11 +1,12 @@
 //! A list of calls after a start, recorded so that it can be run again and made smaller.
-use super::choose::{self, Poke};
+use super::choose::{self, Now, Poke};
 use super::compare::Pair;
 use super::random::Rng;
 use crate::model::book::Book;
-use crate::model::bytes::{codes, read_state};
+use crate::model::bytes::{codes, read_line, read_state, LINE, REPLY, STATE};
 use crate::model::calls::{Raw, RawStart};
 use crate::model::engine::State;
+use crate::model::line::Line;
 
 /// How a run begins: the settings, and what the pool is filled with.
 #[derive(Clone, Debug)]
@@ -14,14 +15,14 @@ pub struct Opening {
     pub fill: u64,
 }
 
-/// One step of a run. The last two are made on copies of the slices and must be refused, or read as another state.
+/// One step of a run. The last two are made on copies of the slices and must be refused, or read as another state or line.
 #[derive(Clone, Debug)]
 pub enum Step {
     Poke(Poke),
     Call(Raw),
-    /// With slices of these lengths: state, reply, pool.
-    Cut(Raw, [usize; 3]),
-    /// With this byte of the state set to this value.
+    /// With slices of these lengths: state, line, reply, pool.
+    Cut(Raw, [usize; 4]),
+    /// With this byte of the state, or after it of the line, set to this value.
     Damaged(Raw, usize, u8),
 }
 
@@ -31,8 +32,15 @@ pub struct Run {
     pub pair: Pair,
     pub book: Book,
     pub steps: Vec<Step>,
-    /// Whether the last accepted call's action had rollback on.
-    rollback: bool,
+    /// State and line as the model reads them from the library's slices.
+    pub read: (State, Line),
+}
+
+/// State and line as the model reads them.
+fn read(pair: &Pair) -> Result<(State, Line), String> {
+    let state = read_state(pair.state()).ok_or("the state is not valid")?;
+    let line = read_line(pair.line(), &state).ok_or("the line is not valid")?;
+    Ok((state, line))
 }
 
 fn resized(bytes: &[u8], length: usize) -> Vec<u8> {
@@ -45,27 +53,33 @@ impl Run {
     /// Starts on slices full of other bytes.
     pub fn open(opening: Opening) -> Result<Run, String> {
         let mut rng = Rng::new(opening.fill);
-        let (mut state, mut pool) = (vec![0; 64], vec![0; 144 * usize::from(opening.start.count)]);
-        rng.fill(&mut state);
-        rng.fill(&mut pool);
-        let mut pair = Pair::on(&state, &pool);
+        let slices = [STATE, LINE, 144 * usize::from(opening.start.count)].map(|length| {
+            let mut bytes = vec![0; length];
+            rng.fill(&mut bytes);
+            bytes
+        });
+        let mut pair = Pair::on(&slices[0], &slices[1], &slices[2]);
         let returned = pair.start(&opening.start)?;
         let book = Book::new(&opening.start);
         match returned {
             0 => Ok(Run {
                 opening,
+                read: read(&pair)?,
                 pair,
                 book,
                 steps: Vec::new(),
-                rollback: false,
             }),
             number => Err(format!("start was refused: {number}")),
         }
     }
 
-    /// The state as the model reads it from the library's state slice.
-    pub fn state(&self) -> State {
-        read_state(self.pair.state()).expect("an accepted call left a valid state")
+    /// State, line and pool, for choosing a call.
+    pub fn now(&self) -> Now<'_> {
+        Now {
+            state: &self.read.0,
+            line: &self.read.1,
+            pool: self.pair.pool(),
+        }
     }
 
     /// Kind, case and what is entered: bytes 17 to 19 of the state slice.
@@ -83,77 +97,86 @@ impl Run {
                 Ok(0)
             }
             Step::Call(raw) => self.call(&raw),
-            Step::Cut(raw, [state, reply, pool]) => {
-                let state = resized(self.pair.state(), state);
-                let pool = resized(self.pair.pool(), pool);
-                Pair::new(&state, &resized(self.pair.reply(), reply), &pool).call(&raw)
+            Step::Cut(raw, lengths) => {
+                let slices = [self.pair.state(), self.pair.line(), self.pair.reply(), self.pair.pool()];
+                let [state, line, reply, pool] = [0, 1, 2, 3].map(|slice| resized(slices[slice], lengths[slice]));
+                Pair::new(&state, &line, &reply, &pool).call(&raw)
             }
             Step::Damaged(raw, at, value) => {
-                let mut state = self.pair.state().to_vec();
-                state[at] = value;
-                Pair::on(&state, self.pair.pool()).call(&raw)
+                let mut bytes = [self.pair.state(), self.pair.line()].concat();
+                bytes[at] = value;
+                Pair::on(&bytes[..STATE], &bytes[STATE..], self.pair.pool()).call(&raw)
             }
         }
     }
 
     fn call(&mut self, raw: &Raw) -> Result<u8, String> {
-        let found = matches!(raw, Raw::Request { .. }).then(|| self.pair.pool().to_vec());
+        let found = (*raw == Raw::Request).then(|| self.pair.pool().to_vec());
         let returned = self.pair.call(raw)?;
         self.book.check_refusal(raw, returned)?;
-        // "In every wait it fits only where rollback is on."
-        if *raw == Raw::Rollback && returned != if self.rollback { 0 } else { 5 } {
-            return Err(format!("Rollback gave {returned}, with rollback on: {}", self.rollback));
-        }
         if returned == 0 {
-            self.rollback = self.pair.reply()[0] >= 9 && self.pair.reply()[3] & 2 != 0;
             let pool = found.as_deref().unwrap_or(&[]);
             self.book.accept(raw, pool, self.pair.reply())?;
+            self.read = read(&self.pair)?;
             self.same_as_book()?;
+            self.goes_on()?;
         }
         Ok(returned)
     }
 
-    /// The state's own unanswered requests and held buffers are the book's.
+    /// No dead end: the call that the book names is accepted. A refused call changes nothing, so it is accepted after that too.
+    fn goes_on(&mut self) -> Result<(), String> {
+        let raw = self.book.way_on();
+        match self.pair.tries(&raw) {
+            0 => Ok(()),
+            number => Err(format!("{raw:?}, by which the run should go on, is refused: {number}")),
+        }
+    }
+
+    /// What waits, unanswered requests and held buffers, as state and line have them, are the book's.
     fn same_as_book(&self) -> Result<(), String> {
-        let Some(state) = read_state(self.pair.state()) else {
-            return Err("the state is not valid".to_string());
-        };
+        let (state, line) = &self.read;
         debug_assert_eq!(codes(&state.wait), self.codes());
         let open = state.wait.open();
         let mut tokens: Vec<u32> = open.iter().flatten().map(|open| open.0).collect();
         let mut held: Vec<u8> = open.iter().flatten().map(|open| open.1).collect();
         held.extend([state.settings.ack, state.settings.spare]);
+        held.extend(line.0.iter().map(|request| request.buffer()));
         tokens.sort_unstable();
         held.sort_unstable();
-        match (tokens, held) == self.book.says() {
+        let (waiting, unanswered, book_held) = self.book.says();
+        match (&line.0, &tokens, &held) == (&waiting, &unanswered, &book_held) {
             true => Ok(()),
-            false => Err(format!("the state holds {:?}, the book says {:?}", open, self.book.says())),
+            false => Err(format!(
+                "state and line have {:?}, {tokens:?} and {held:?}, the book says {waiting:?}, {unanswered:?} and {book_held:?}",
+                line.0
+            )),
         }
     }
 
     /// A random step: mostly a call that fits, often with pool bytes before it.
     pub fn random_step(&mut self, rng: &mut Rng) -> Result<(u8, Option<Raw>), String> {
-        let state = self.state();
         if rng.chance(60) {
-            self.step(Step::Poke(choose::poke(rng, &state)))?;
+            let poke = choose::poke(rng, self.now());
+            self.step(Step::Poke(poke))?;
         }
         let raw = if rng.chance(85) {
-            choose::fitting(rng, &state, self.pair.pool())
+            choose::fitting(rng, self.now())
         } else {
-            choose::any(rng, &state)
+            choose::any(rng, self.now())
         };
         let step = match rng.below(200) {
             0 => Step::Cut(raw, self.cut(rng)),
-            1 => Step::Damaged(raw, rng.below(64), rng.byte()),
+            1 => Step::Damaged(raw, rng.below(STATE + LINE), rng.byte()),
             _ => return Ok((self.step(Step::Call(raw))?, Some(raw))),
         };
         Ok((self.step(step)?, None))
     }
 
     /// Lengths of which at least one is wrong.
-    fn cut(&self, rng: &mut Rng) -> [usize; 3] {
-        let mut lengths = [64, 48, self.pair.pool().len()];
-        let which = rng.below(3);
+    fn cut(&self, rng: &mut Rng) -> [usize; 4] {
+        let mut lengths = [STATE, LINE, REPLY, self.pair.pool().len()];
+        let which = rng.below(4);
         let length = lengths[which];
         lengths[which] = rng.pick(&[0, 1, length - 1, length + 1, length + 144, length - 8]);
         lengths

@@ -46,12 +46,22 @@ pub fn calls(run: &mut Run, raws: &[Raw]) -> Vec<u8> {
     run.pair.reply().to_vec()
 }
 
+/// A Tx request arrives, best effort and without channel check.
 pub fn tx(token: u32, buffer: u8, length: u16) -> Raw {
-    Raw::request(token, 0, 0, 0, buffer, length, 0)
+    Raw::arrive(token, 0, 0, 0, buffer, length, 0)
 }
 
+/// An Rx request arrives, best effort.
 pub fn rx(token: u32, buffer: u8) -> Raw {
-    Raw::request(token, 1, 0, 0, buffer, 0, 0)
+    Raw::arrive(token, 1, 0, 0, buffer, 0, 0)
+}
+
+/// How an ask is met: by an arrival and the Request that takes it, or by None.
+pub fn met_by(next: Raw) -> Vec<Raw> {
+    match next {
+        Raw::Arrive { .. } => vec![next, Raw::Request],
+        _ => vec![next],
+    }
 }
 
 pub fn entered_from_off() -> Raw {
@@ -78,6 +88,7 @@ pub fn receiving_ack(fcs_length: u8, length: u16) -> Run {
         &mut run,
         &[
             tx(70, 2, length),
+            Raw::Request,
             entered_from_off(),
             entered_after_sending(900, 1_000_000),
             frame_started(),
@@ -89,6 +100,7 @@ pub fn receiving_ack(fcs_length: u8, length: u16) -> Run {
 /// A run in which the radio listens with buffer 2 for token 9 and is to read a header.
 pub fn reading_header(start: RawStart) -> Run {
     let mut run = open(start);
-    calls(&mut run, &[rx(9, 2), entered_from_off(), Raw::FrameStart, frame_started()]);
+    let raws = [rx(9, 2), Raw::Request, entered_from_off(), Raw::FrameStart, frame_started()];
+    calls(&mut run, &raws);
     run
 }

@@ -1,10 +1,14 @@
-//! docs/LAYOUTS.md: the state's 64 bytes, the reply's 48 and the facts' 32.
-use super::calls::{Action, Answer, CameTo, Cause, Received, Reply, Start, Task};
+//! docs/LAYOUTS.md: the state's 64 bytes, the line's 96, the reply's 48 and the facts' 32.
+use super::calls::{Action, Answer, CameTo, Cause, Received, Reply, Request, Start, Task};
 use super::engine::{Awaited, Left, Next, Rx, State, Tx, Wait};
 use super::header::{Address, Facts};
+use super::line::{Line, CAPACITY};
 use super::settings::{Settings, Spacing};
 
 pub const STATE: usize = 64;
+/// One waiting request.
+pub const RECORD: usize = 24;
+pub const LINE: usize = CAPACITY * RECORD;
 pub const REPLY: usize = 48;
 pub const INFO: usize = 32;
 
@@ -263,6 +267,82 @@ pub fn read_state(bytes: &[u8]) -> Option<State> {
     (valid(&state) && write_state(&state) == *bytes).then_some(state)
 }
 
+/// A record's 24 bytes: kind, start, channel-check flag, buffer, token, time, length; the last six are 0.
+fn put_request(bytes: &mut [u8], request: &Request) {
+    let (kind, flag, sent) = match *request {
+        Request::Tx { check, length, .. } => (1, check, length),
+        Request::Rx { .. } => (2, false, 0),
+    };
+    let (start, time) = match request.start() {
+        Start::BestEffort => (0, 0),
+        Start::At(time) => (1, time),
+    };
+    put(bytes, 0, &[kind, start, u8::from(flag), request.buffer()]);
+    put(bytes, 4, &request.token().to_le_bytes());
+    put(bytes, 8, &time.to_le_bytes());
+    put(bytes, 16, &sent.to_le_bytes());
+}
+
+/// The line as its 96 bytes: records in the order of arrival, those that are free last and all 0.
+pub fn write_line(line: &Line) -> [u8; LINE] {
+    let mut bytes = [0; LINE];
+    for (record, request) in bytes.chunks_mut(RECORD).zip(&line.0) {
+        put_request(record, request);
+    }
+    bytes
+}
+
+fn get_request(record: &[u8]) -> Option<Request> {
+    let (token, buffer) = (get(record, 4, 4) as u32, record[3]);
+    let start = match record[1] {
+        0 => Start::BestEffort,
+        1 => Start::At(get(record, 8, 8)),
+        _ => return None,
+    };
+    match record[0] {
+        1 => Some(Request::Tx {
+            token,
+            start,
+            buffer,
+            length: get(record, 16, 2) as u16,
+            check: record[2] == 1,
+        }),
+        2 => Some(Request::Rx { token, start, buffer }),
+        _ => None,
+    }
+}
+
+fn all_different<T: Ord>(mut all: Vec<T>) -> bool {
+    all.sort_unstable();
+    all.windows(2).all(|pair| pair[0] != pair[1])
+}
+
+/// E1: "Tx lengths pass 8, buffers are in range and, like tokens, all different over state and line."
+fn valid_line(line: &Line, state: &State) -> bool {
+    let settings = &state.settings;
+    let fits = |request: &Request| match *request {
+        Request::Tx { buffer, length, .. } => buffer < settings.count && settings.sends(length),
+        Request::Rx { buffer, .. } => buffer < settings.count,
+    };
+    let open = state.wait.open();
+    let open = open.iter().flatten();
+    let tokens = open.clone().map(|open| open.0).chain(line.0.iter().map(Request::token));
+    let buffers = open.map(|open| open.1).chain(line.0.iter().map(Request::buffer));
+    let own = [settings.ack, settings.spare];
+    line.0.iter().all(fits) && all_different(tokens.collect()) && all_different(buffers.chain(own).collect())
+}
+
+/// The line that the bytes are written as, beside a valid state: records are read up to the first that is free, the line must be
+/// valid, and writing it must give the same bytes again.
+pub fn read_line(bytes: &[u8], state: &State) -> Option<Line> {
+    if bytes.len() != LINE {
+        return None;
+    }
+    let waiting = bytes.chunks(RECORD).take_while(|record| record[0] != 0);
+    let line = Line(waiting.map(get_request).collect::<Option<_>>()?);
+    (valid_line(&line, state) && write_line(&line) == *bytes).then_some(line)
+}
+
 fn put_task(bytes: &mut [u8; REPLY], task: &Task) {
     bytes[1] = task.buffer;
     bytes[3] |= u8::from(task.rollback) << 1;
@@ -276,6 +356,7 @@ fn put_task(bytes: &mut [u8; REPLY], task: &Task) {
 
 fn put_action(bytes: &mut [u8; REPLY], action: &Action) {
     match action {
+        Action::Nothing => {}
         Action::WaitForRequest => bytes[0] = 1,
         Action::Ask => bytes[0] = 2,
         Action::AskOutbound => bytes[0] = 3,

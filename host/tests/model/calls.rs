@@ -1,4 +1,4 @@
-//! Document 01, "Calls", and document 02, E6: what the host and the radio say, and what is replied; and the numbers of
+//! Document 01, "Calls", and document 02, E1 and E6: what the host and the radio say, and what is replied; and the numbers of
 //! docs/LAYOUTS.md they stand for.
 use super::settings::Spacing;
 
@@ -24,6 +24,27 @@ pub enum Request {
         start: Start,
         buffer: u8,
     },
+}
+
+impl Request {
+    pub fn token(&self) -> u32 {
+        let (Request::Tx { token, .. } | Request::Rx { token, .. }) = *self;
+        token
+    }
+
+    pub fn start(&self) -> Start {
+        let (Request::Tx { start, .. } | Request::Rx { start, .. }) = *self;
+        start
+    }
+
+    pub fn buffer(&self) -> u8 {
+        let (Request::Tx { buffer, .. } | Request::Rx { buffer, .. }) = *self;
+        buffer
+    }
+
+    pub fn transmits(&self) -> bool {
+        matches!(self, Request::Tx { .. })
+    }
 }
 
 /// "A receive result is frame (length without checksum, time), window ended, or CRC error (time)". E6: "The receive results "frame"
@@ -59,9 +80,12 @@ pub enum Stop {
     Failed,
 }
 
+/// E1: "Requests arrive and may be withdrawn by token in every wait, and leave when the service asks." "a Request, now without fields".
 #[derive(Clone, Copy, Debug, PartialEq, Eq)]
 pub enum Call {
-    Request(Request),
+    Arrive(Request),
+    Withdraw(u32),
+    Request,
     None,
     FrameStart,
     OutboundSeen(Start, bool),
@@ -98,9 +122,10 @@ pub struct Task {
     pub rollback: bool,
 }
 
-/// "one radio or queue action"
+/// "one radio or queue action"; nothing where a call changes the line alone.
 #[derive(Clone, Copy, Debug, PartialEq, Eq)]
 pub enum Action {
+    Nothing,
     WaitForRequest,
     Ask,
     AskOutbound,
@@ -125,7 +150,7 @@ pub struct Reply {
 /// A call as the numbers that the exported function takes.
 #[derive(Clone, Copy, Debug, PartialEq, Eq)]
 pub enum Raw {
-    Request {
+    Arrive {
         token: u32,
         direction: u8,
         start: u8,
@@ -134,6 +159,10 @@ pub enum Raw {
         length: u16,
         cca: u8,
     },
+    Withdraw {
+        token: u32,
+    },
+    Request,
     None,
     FrameStart,
     OutboundSeen {
@@ -235,8 +264,8 @@ fn cause_of(code: u8, time: u64) -> Option<Cause> {
 }
 
 impl Raw {
-    pub fn request(token: u32, direction: u8, start: u8, time: u64, buffer: u8, length: u16, cca: u8) -> Raw {
-        Raw::Request {
+    pub fn arrive(token: u32, direction: u8, start: u8, time: u64, buffer: u8, length: u16, cca: u8) -> Raw {
+        Raw::Arrive {
             token,
             direction,
             start,
@@ -245,6 +274,10 @@ impl Raw {
             length,
             cca,
         }
+    }
+
+    pub fn withdraw(token: u32) -> Raw {
+        Raw::Withdraw { token }
     }
 
     pub fn outbound_seen(start: u8, time: u64, cca: u8) -> Raw {
@@ -297,7 +330,9 @@ impl Raw {
     /// leave unused is ignored, whatever it is".
     pub fn call(self) -> Option<Call> {
         Some(match self {
-            Raw::Request { .. } => Call::Request(self.asked_for()?),
+            Raw::Arrive { .. } => Call::Arrive(self.arriving()?),
+            Raw::Withdraw { token } => Call::Withdraw(token),
+            Raw::Request => Call::Request,
             Raw::None => Call::None,
             Raw::FrameStart => Call::FrameStart,
             Raw::OutboundSeen { start, time, cca } => Call::OutboundSeen(start_of(start, time)?, yes_or_no(cca)?),
@@ -327,9 +362,9 @@ impl Raw {
         })
     }
 
-    /// The request that the numbers of `widosha_request` stand for.
-    fn asked_for(self) -> Option<Request> {
-        let Raw::Request {
+    /// The request that the numbers of `widosha_arrive` stand for.
+    fn arriving(self) -> Option<Request> {
+        let Raw::Arrive {
             token,
             direction,
             start,
@@ -355,23 +390,27 @@ impl Raw {
         }
     }
 
-    /// Which of the nine calls it is, for counting.
+    /// Which of the eleven calls it is, for counting.
     pub fn kind(self) -> usize {
         match self {
-            Raw::Request { .. } => 0,
-            Raw::None => 1,
-            Raw::FrameStart => 2,
-            Raw::OutboundSeen { .. } => 3,
-            Raw::Stopped { .. } => 4,
-            Raw::Header { .. } => 5,
-            Raw::Entered { .. } => 6,
-            Raw::Fallback { .. } => 7,
-            Raw::Rollback => 8,
+            Raw::Arrive { .. } => 0,
+            Raw::Withdraw { .. } => 1,
+            Raw::Request => 2,
+            Raw::None => 3,
+            Raw::FrameStart => 4,
+            Raw::OutboundSeen { .. } => 5,
+            Raw::Stopped { .. } => 6,
+            Raw::Header { .. } => 7,
+            Raw::Entered { .. } => 8,
+            Raw::Fallback { .. } => 9,
+            Raw::Rollback => 10,
         }
     }
 }
 
-pub const CALL_NAMES: [&str; 9] = [
+pub const CALL_NAMES: [&str; 11] = [
+    "Arrive",
+    "Withdraw",
     "Request",
     "None",
     "FrameStart",

@@ -1,6 +1,8 @@
-//! Document 01, "Waits" and "Refusals, in checking order", and document 02, E4 and E6: the state and what each call does with it.
+//! Document 01, "Waits" and "Refusals, in checking order", and document 02, E1, E4 and E6: the state and what each call does with
+//! it, the waiting line and the pool.
 use super::calls::{Action, Answer, Call, CameTo, Cause, Outcome, Received, Reply, Request, Start, Stop, Task};
 use super::header::{self, Control};
+use super::line::Line;
 use super::settings::{latest_ack_start, spacing, Settings, Spacing};
 
 /// A receive request that the radio works on.
@@ -18,7 +20,7 @@ pub struct Tx {
     pub length: u16,
 }
 
-/// A sent frame whose ACK is awaited: its request, the number noted at acceptance, the time sent.
+/// A sent frame whose ACK is awaited: its request, the number noted when it left the line, the time sent.
 #[derive(Clone, Copy, Debug, PartialEq, Eq)]
 pub struct Awaited {
     pub tx: Tx,
@@ -74,11 +76,11 @@ pub struct State {
 /// An accepted call's next state and reply, or the refusal's number.
 pub type Step = Result<(State, Reply), u8>;
 
-/// A request that is not answered yet, as the state has it: token and buffer.
+/// A request that has left the line and is not answered yet, as the state has it: token and buffer.
 pub type Open = (u32, u8);
 
 impl Wait {
-    /// The unanswered requests: the one that the radio works on or leaves, the one whose task it enters.
+    /// The unanswered requests that have left the line: the one that the radio works on or leaves, the one whose task it enters.
     pub fn open(&self) -> [Option<Open>; 2] {
         let rx = |rx: &Rx| Some((rx.token, rx.buffer));
         let tx = |tx: &Tx| Some((tx.token, tx.buffer));
@@ -171,26 +173,31 @@ fn own_task(buffer: u8, spacing: Option<Spacing>, rollback: bool) -> Task {
     }
 }
 
-/// "Start writes 02 10 00 into the ACK buffer's frame and no other byte." The refusals 2 to 4 are the settings' own.
-pub fn start(settings: Settings, pool: &mut [u8]) -> Step {
+/// "Start writes 02 10 00 into the ACK buffer's frame and no other byte." The refusals 2 to 4 are the settings' own. E1, of the line:
+/// "Start empties it."
+pub fn start(settings: Settings, line: &mut Line, pool: &mut [u8]) -> Step {
     if let Some(number) = settings.refusal(pool.len()) {
         return Err(number);
     }
+    *line = Line::default();
     let frame = settings.frame(settings.ack);
     pool[frame..frame + 3].copy_from_slice(&[0x02, 0x10, 0x00]);
     accepted(settings, Wait::Idle, Action::WaitForRequest, None)
 }
 
-/// One call on a state, with the pool as the call finds it. Only the pool of an accepted call may change.
-pub fn step(state: &State, call: &Call, pool: &mut [u8]) -> Step {
+/// One call on a state and a line, with the pool as the call finds it. Only an accepted call may change line or pool: "a refusal keeps
+/// its bytes".
+pub fn step(state: &State, line: &mut Line, call: &Call, pool: &mut [u8]) -> Step {
     if let Some(number) = state.settings.refusal(pool.len()) {
         return Err(number);
     }
     match call {
-        Call::Request(request) => state.request(request, pool),
-        Call::None => state.none(),
+        Call::Arrive(request) => state.arrive(line, request),
+        Call::Withdraw(token) => state.withdraw(line, *token),
+        Call::Request => state.request(line, pool),
+        Call::None => state.none(line),
         Call::FrameStart => state.frame_start(),
-        Call::OutboundSeen(start, flag) => state.outbound_seen(*start, *flag),
+        Call::OutboundSeen(start, flag) => state.outbound_seen(line, *start, *flag),
         Call::Stopped(stop) => state.stopped(stop),
         Call::Header { arrived, length } => state.header(*arrived, *length, pool),
         Call::Entered(outcome, entry) => state.entered(outcome, *entry, pool),
@@ -237,31 +244,67 @@ impl State {
         })
     }
 
-    /// The refusals 5 to 9 of a request, in checking order, then the transition for it.
-    fn request(&self, request: &Request, pool: &[u8]) -> Step {
-        let asking = self.asking().ok_or(5)?;
-        let (Request::Tx { token, buffer, .. } | Request::Rx { token, buffer, .. }) = *request;
+    /// E1: "Requests arrive .. in every wait". The refusals 6 to 8, 12 and 13, in checking order; "Arrival skips 9."
+    fn arrive(&self, line: &mut Line, request: &Request) -> Step {
         let open = self.wait.open();
-        // "6. The token is held by an unanswered request."
-        if open.iter().flatten().any(|open| open.0 == token) {
+        let buffer = request.buffer();
+        // "6 is for arrivals only and looks at requests that have left the line."
+        if open.iter().flatten().any(|open| open.0 == request.token()) {
             return Err(6);
         }
-        // "7. The buffer is not below n or is held."
+        // "7. The buffer is not below n or is held." E1: "A waiting request's buffer is held from arrival".
         let own = buffer == self.settings.ack || buffer == self.settings.spare;
-        if buffer >= self.settings.count || own || open.iter().flatten().any(|open| open.1 == buffer) {
+        let held = own || line.holds(buffer) || open.iter().flatten().any(|open| open.1 == buffer);
+        if buffer >= self.settings.count || held {
             return Err(7);
         }
         // "8. A Tx length is below 3 or above 127 − F."
         if let Request::Tx { length, .. } = *request {
-            if length < 3 || length > self.settings.longest() {
+            if !self.settings.sends(length) {
                 return Err(8);
             }
         }
-        // "9. The direction or start is not allowed in this wait."
-        if !asking.takes.takes(request) {
-            return Err(9);
+        // "Refused: 12 for an arrival when four wait; 13 when the token already waits .. ; both after 8."
+        if line.is_full() {
+            return Err(12);
         }
-        let (next, action) = self.schedule(request, asking.spacing, pool);
+        if line.place_of(request.token()).is_some() {
+            return Err(13);
+        }
+        line.0.push(*request);
+        self.changes_the_line_alone()
+    }
+
+    /// E1: "may be withdrawn by token in every wait"; "withdrawal frees" the buffer.
+    fn withdraw(&self, line: &mut Line, token: u32) -> Step {
+        // "13 when the token .. , for a withdrawal, does not [wait] or is the Tx OutboundSeen named, its stop or the ask after its
+        // window ended still open". The named one is the earliest Tx still: others arrive behind it, and until that ask none leaves.
+        let place = line.place_of(token).ok_or(13)?;
+        let open = matches!(self.wait, Wait::StopForOutbound(_) | Wait::AfterWindow(_));
+        if open && line.earliest(Request::transmits) == Some(place) {
+            return Err(13);
+        }
+        line.0.remove(place);
+        self.changes_the_line_alone()
+    }
+
+    /// What an arrival and a withdrawal are told: no action and no answer. The wait stays.
+    fn changes_the_line_alone(&self) -> Step {
+        accepted(self.settings, self.wait, Action::Nothing, None)
+    }
+
+    /// Which arrival leaves at an ask, by its place in the line; None where the wait does not ask.
+    pub fn leaves(&self, line: &Line) -> Option<Option<usize>> {
+        let asking = self.asking()?;
+        Some(line.earliest(|request| asking.takes.takes(request)))
+    }
+
+    /// E1: "An ask takes the earliest arrival whose direction and start the wait allows"; "a Request, now without fields, that finds none
+    /// such is 9." "on leaving the buffer is no ground for 7".
+    fn request(&self, line: &mut Line, pool: &[u8]) -> Step {
+        let asking = self.asking().ok_or(5)?;
+        let place = line.earliest(|request| asking.takes.takes(request)).ok_or(9)?;
+        let (next, action) = self.schedule(&line.0.remove(place), asking.spacing, pool);
         accepted(self.settings, Wait::Change(asking.left, next), action, asking.answer)
     }
 
@@ -297,15 +340,20 @@ impl State {
     }
 
     /// "A Tx frame wants an ACK if its control at acceptance has bit 5 and its number is not suppressed; that number, its third
-    /// byte, is noted." "A suppressed number counts in version 2 only".
+    /// byte, is noted." "A suppressed number counts in version 2 only". E1: "Acceptance, where it says when a Tx frame's bytes are
+    /// noted, is leaving."
     fn noted(&self, buffer: u8, pool: &[u8]) -> Option<u8> {
         let frame = &pool[self.settings.frame(buffer)..];
         let control = Control(u16::from_le_bytes([frame[0], frame[1]]));
         (control.wants_ack() && !control.suppressed()).then_some(frame[2])
     }
 
-    /// "None: no request waits."
-    fn none(&self) -> Step {
+    /// "None: no request waits." E1: "where a wait takes None, it now fits exactly if the line holds no such arrival", that is none
+    /// "whose direction and start the wait allows".
+    fn none(&self, line: &Line) -> Step {
+        if self.leaves(line).ok_or(5)?.is_some() {
+            return Err(5);
+        }
         let off = |left, rollback| accepted(self.settings, Wait::Change(left, Next::Off), Action::Off { rollback }, None);
         match self.wait {
             // "the Request ... or None answers Nack and goes on from off"
@@ -334,9 +382,14 @@ impl State {
         }
     }
 
-    /// "OutboundSeen, stop before that start (best effort: without a time)"
-    fn outbound_seen(&self, start: Start, flag: bool) -> Step {
+    /// "OutboundSeen, stop before that start (best effort: without a time)". E1: "OutboundSeen fits only with the start and flag of its
+    /// earliest Tx", the line's.
+    fn outbound_seen(&self, line: &Line, start: Start, flag: bool) -> Step {
         let Wait::Listening(rx) = self.wait else { return Err(5) };
+        match line.earliest_tx() {
+            Some(Request::Tx { start: own, check, .. }) if (*own, *check) == (start, flag) => {}
+            _ => return Err(5),
+        }
         let action = match start {
             Start::BestEffort => Action::Stop,
             Start::At(time) => Action::StopBefore(time, flag),

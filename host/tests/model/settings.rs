@@ -52,6 +52,11 @@ impl Settings {
     pub fn longest(&self) -> u16 {
         LONGEST - u16::from(self.fcs)
     }
+
+    /// Whether a Tx length passes 8: "A Tx length is below 3 or above 127 − F."
+    pub fn sends(&self, length: u16) -> bool {
+        length >= 3 && length <= self.longest()
+    }
 }
 
 #[derive(Clone, Copy, Debug, PartialEq, Eq)]

@@ -7,7 +7,7 @@ use Rattle.driver_service.proofs.Promises.{begun}
 use Rattle.driver_service.proofs.start.Goals as goal
 
 pub returns : goal.returns
-returns c = begun _ _ _ _ _ _ c.in_ok-idle.ensures c.new.ensures
+returns c = begun _ _ _ _ _ _ c.in_ok-idle.ensures c.clear.ensures
 
 pub returns-in_err-idle : goal.returns-in_err-idle
 returns-in_err-idle c =

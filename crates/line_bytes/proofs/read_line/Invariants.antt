@@ -2,7 +2,7 @@ use Rattle.std.proofs.Common.{◌≡◌, ◌+◌, ◌++◌, length}
 use Rattle.std.specs.Iterator.Adapters.{take_source, take_count}
 use Rattle.std.specs.Slice.Iter.{chunks_rest, chunks_size}
 use Rattle.line_bytes.specs.Layout.{read_records}
-use Rattle.line_bytes.proofs.line_at.Given as goal
+use Rattle.line_bytes.proofs.read_line.Given as goal
 
 -- the requests read so far, and what the records that are left are read as
 abbrev pub invariant-loop-record : goal.invariant-loop-record

@@ -20,7 +20,7 @@ mod world;
 use air::Who::{self, CellA, CellB, CellC, CellD, HandsetB, HubA, HubB, Port, ReaderB};
 use air::{Air, MICROSECOND};
 use station::{Heard, Link, Sender, Station, Told, Wanted, Weighed, Weighing};
-use widosha::{Address, Asked, Call, PreliminaryFrameInfo, Response, Wait};
+use widosha::{Address, Asked, Call, PreliminaryFrameInfo, Refusal, Response, Wait};
 use words::tonnes;
 use world::{sender_of, Event, Show, World, TURNAROUND};
 
@@ -301,7 +301,9 @@ fn check_line(world: &World) {
     let found: Vec<(String, u8, String)> = calls
         .map(|(_, made)| {
             let line: Vec<String> = made.line.iter().map(|wanted| words::wanted_by(wanted, since)).collect();
-            let returned = made.result.map_or_else(|refusal| refusal.number(), |_| 0);
+            let returned = made
+                .result
+                .map_or_else(|error| error.refusal().map_or(255, Refusal::number), |_| 0);
             (words::call(made, since), returned, line.join(", "))
         })
         .collect();

@@ -24,7 +24,8 @@
 //!     ack_buffer: 0,
 //!     spare_buffer: 1,
 //! };
-//! let (mut cell, first) = DriverService::start(settings, Pool::<3>::new())?;
+//! let mut pool = Pool::<3>::new();
+//! let (mut cell, first) = DriverService::start(settings, &mut pool)?;
 //! assert_eq!(first.action, Action::ReceiveRequest);
 //!
 //! // Control 8861: data, wants an ACK, one PAN for two short addresses. Number 7, PAN, hub, cell, mass.
@@ -37,22 +38,25 @@
 //! assert!(matches!(asked.action, Action::Tx { buffer: 2, length: 12, cca: true, .. }));
 //!
 //! // The radio sends, then listens for the ACK, at the latest until 10 microseconds after it began to.
-//! cell.entered(TaskResult::Off, 1_000_000)?;
-//! let listening = cell.entered(TaskResult::Sent { time: 1_640_000 }, 1_832_000)?;
-//! assert_eq!(listening.action, Action::Stop(StopListening::At(1_842_000)));
+//! let at = LocalClockInstant::from_nanos;
+//! cell.entered(TaskResult::Off, at(1_000_000))?;
+//! let listening = cell.entered(TaskResult::Sent { time: at(1_640_000) }, at(1_832_000))?;
+//! assert_eq!(listening.action, Action::Stop(StopListening::At(at(1_842_000))));
 //!
 //! // A frame starts in time, no other request waits, and the frame turns out to be the ACK for number 7.
 //! cell.stopped(StopResult::FrameStarted)?;
 //! cell.none()?;
 //! cell.put_frame(1, &[0x02, 0x00, 7]);
-//! let received = TaskResult::Rx(RxResult::Frame { length: 3, time: 2_184_000, quality: 187 });
-//! let ended = cell.entered(received, 2_184_000)?;
-//! let sent = Answer { token: 1, buffer: 2, response: Response::Sent { time: 1_640_000 } };
-//! assert_eq!(ended, Reply { action: Action::ReceiveRequest, answers: Answers::One(sent) });
+//! let received = TaskResult::Rx(RxResult::Frame { length: 3, time: at(2_184_000), quality: 187 });
+//! let ended = cell.entered(received, at(2_184_000))?;
+//! assert_eq!(ended.action, Action::ReceiveRequest);
+//! let answer = ended.answers.into_iter().next().expect("the weighing is answered");
+//! assert_eq!((answer.token, answer.buffer), (1, 2));
+//! assert_eq!(answer.response, Response::Sent { time: at(1_640_000) });
 //!
 //! // What does not fit is refused and changes nothing.
-//! assert_eq!(cell.rollback(), Err(Refusal::Unfit));
-//! # Ok::<(), Refusal>(())
+//! assert_eq!(cell.rollback(), Err(Error::Refused(Refusal::Unfit)));
+//! # Ok::<(), Error>(())
 //! ```
 //!
 //! The hub needs no parser of its own: what the header of a received frame says comes with its answer, read by the library. It
@@ -71,10 +75,12 @@
 //! #     spare_buffer: 1,
 //! # };
 //! # let frame = [0x61, 0x88, 7, 0x34, 0x12, 0x00, 0x00, 0x01, 0x00, 0xc0, 0x5d, 0x00];
-//! let (mut hub, _) = DriverService::start(settings, Pool::<3>::new())?;
+//! # let at = LocalClockInstant::from_nanos;
+//! let mut pool = Pool::<3>::new();
+//! let (mut hub, _) = DriverService::start(settings, &mut pool)?;
 //! hub.arrive(Request { token: 5, start: Timestamp::BestEffort, buffer: 2, task: Task::Rx })?;
 //! hub.request()?;
-//! hub.entered(TaskResult::Off, 0)?;
+//! hub.entered(TaskResult::Off, at(0))?;
 //!
 //! // A frame starts, and its header is for the hub, which is to send an ACK once the frame is there. For a broadcast it would not.
 //! hub.frame_start()?;
@@ -82,8 +88,8 @@
 //! hub.put_frame(2, &frame);
 //! let turn = hub.header(9, 14)?;
 //! assert!(matches!(turn.action, Action::Tx { buffer: 0, length: 3, .. }));
-//! let received = TaskResult::Rx(RxResult::Frame { length: 12, time: 1_640_000, quality: 58 });
-//! let ended = hub.entered(received, 1_832_000)?;
+//! let received = TaskResult::Rx(RxResult::Frame { length: 12, time: at(1_640_000), quality: 58 });
+//! let ended = hub.entered(received, at(1_832_000))?;
 //!
 //! for answer in ended.answers {
 //!     let Some(received) = hub.received(&answer) else { continue };
@@ -92,7 +98,7 @@
 //!     assert_eq!(answer.response.quality(), Some(58));
 //! }
 //! # assert!(matches!(ended.answers, Answers::One(Answer { token: 5, .. })));
-//! # Ok::<(), Refusal>(())
+//! # Ok::<(), Error>(())
 //! ```
 #![no_std]
 #![warn(missing_docs)]
@@ -102,22 +108,27 @@
 extern crate std;
 
 mod call;
+mod error;
 mod fcs;
 #[allow(unsafe_code)]
 pub mod ffi;
 mod info;
+mod lent;
 mod line;
 mod raw;
 mod reply;
 mod service;
 mod settings;
+mod time;
 mod wait;
 
 pub use call::{Call, Cause, Request, RxResult, StopResult, Task, TaskResult, Timestamp};
+pub use error::{Error, Refusal};
 pub use fcs::{check_fcs, fcs};
 pub use info::{Address, AddressingFields, PreliminaryFrameInfo, Received};
 pub use line::LINE_CAPACITY;
-pub use reply::{Action, Answer, Answers, Ifs, Refusal, Reply, Response, Spacing, StopListening, TaskDirection};
+pub use reply::{Action, Answer, Answers, Ifs, Reply, Response, Spacing, StopListening, TaskDirection};
 pub use service::DriverService;
 pub use settings::{FcsLength, Pool, Settings, FRAME_LENGTH};
+pub use time::LocalClockInstant;
 pub use wait::{Asked, Left, Next, Stop, Transition, Wait};

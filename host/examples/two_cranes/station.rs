@@ -90,7 +90,7 @@ pub struct Made {
     pub wait: Option<Wait>,
     /// What waits after it, in the order of arrival.
     pub line: Vec<Wanted>,
-    pub result: Result<Reply, Refusal>,
+    pub result: Result<Reply, Error>,
 }
 
 /// The service's own two, one for each of four requests that wait, two for those that it works on, and one for a request that finds
@@ -100,7 +100,7 @@ const BUFFERS: usize = 2 + LINE_CAPACITY + 2 + 1;
 pub struct Station {
     pub who: Who,
     pan: u16,
-    pub driver: DriverService<BUFFERS>,
+    pub driver: DriverService<'static, BUFFERS>,
     /// The last action that there was: what the radio and the host are to do.
     pub action: Action,
     pub phase: Phase,
@@ -131,7 +131,7 @@ impl Station {
             ack_buffer: 0,
             spare_buffer: 1,
         };
-        let (driver, reply) = DriverService::start(settings, Pool::new()).expect("the settings are in range");
+        let (driver, reply) = DriverService::start(settings, Box::leak(Box::default())).expect("the settings are in range");
         Station {
             who,
             pan,
@@ -184,7 +184,7 @@ impl Station {
         if self.kept_back.is_empty() {
             match self.arrive(wanted) {
                 Ok(_) => return,
-                Err(refusal) => assert_eq!(refusal, Refusal::LineFull, "nothing else is wrong with it"),
+                Err(error) => assert_eq!(error, Error::Refused(Refusal::LineFull), "nothing else is wrong with it"),
             }
         }
         self.kept_back.push_back(wanted);
@@ -201,7 +201,7 @@ impl Station {
             Action::ReceiveRequest => self.make(Call::Request),
             // An ask: the earliest that may follow what the radio does now. If none that waits may, None.
             Action::TryReceiveRequest(_) => match self.make(Call::Request) {
-                Err(Refusal::NotAllowed) => self.make(Call::None),
+                Err(Error::Refused(Refusal::NotAllowed)) => self.make(Call::None),
                 taken => taken,
             },
             // Listening, until something is to be sent.
@@ -224,7 +224,7 @@ impl Station {
     }
 
     /// Lends a request a free buffer, with its frame in it if it is to be sent, and hands it in.
-    fn arrive(&mut self, wanted: Wanted) -> Result<Reply, Refusal> {
+    fn arrive(&mut self, wanted: Wanted) -> Result<Reply, Error> {
         let buffer = self
             .free
             .pop()
@@ -250,7 +250,11 @@ impl Station {
     fn task_of(&mut self, wanted: &Wanted, buffer: u8) -> (Timestamp, Task) {
         let (start, cca, frame) = match wanted {
             Wanted::Send(weighing) => (Timestamp::BestEffort, true, self.frame_of(weighing)),
-            Wanted::SendAt(weighing, time) => (Timestamp::Scheduled(*time), false, self.frame_of(weighing)),
+            Wanted::SendAt(weighing, time) => (
+                Timestamp::Scheduled(LocalClockInstant::from_nanos(*time)),
+                false,
+                self.frame_of(weighing),
+            ),
             Wanted::Report(number, charge) => (Timestamp::BestEffort, true, self.frame_to_hub(0x8841, *number, &[*charge])),
             Wanted::Receive => return (Timestamp::BestEffort, Task::Rx),
         };
@@ -289,7 +293,7 @@ impl Station {
     // ---- The calls, of host and radio
 
     /// Makes a call and notes what came of it.
-    pub fn make(&mut self, call: Call) -> Result<Reply, Refusal> {
+    pub fn make(&mut self, call: Call) -> Result<Reply, Error> {
         let (found, waited) = (self.driver.wait(), self.tokens_in_line());
         let result = self.step(call);
         let waits = self.tokens_in_line();
@@ -316,7 +320,7 @@ impl Station {
     }
 
     /// The call itself. One on the line has no action, so the last one stands; and a refused one changes nothing.
-    fn step(&mut self, call: Call) -> Result<Reply, Refusal> {
+    fn step(&mut self, call: Call) -> Result<Reply, Error> {
         let (state, line) = (*self.driver.state(), *self.driver.line());
         let result = self.driver.step(call);
         match result {

@@ -180,7 +180,7 @@ impl World {
                 || matches!(made.found, Some(Wait::Entering(Transition::Request(Left::ReceivingAck, _))));
             let shown = self.show == Show::AllCallsOf(who) || self.show == Show::CallsOfAckWait(who) && ack_wait;
             // None is then the call that is shown.
-            if shown && made.result != Err(Refusal::NotAllowed) {
+            if shown && made.result != Err(Error::Refused(Refusal::NotAllowed)) {
                 self.say(who.name(), &words::made(&made, self.since));
             }
             for answer in made.result.map_or(Answers::None, |reply| reply.answers) {
@@ -194,7 +194,7 @@ impl World {
     fn obey(&mut self, i: usize) {
         let action = self.stations[i].action;
         match action {
-            Action::Stop(StopListening::At(time)) => self.put(time, Event::Due(i, action)),
+            Action::Stop(StopListening::At(time)) => self.put(time.as_nanos(), Event::Due(i, action)),
             Action::Stop(_) => self.stop(i),
             Action::ReadHeader => {
                 let (_, arrived, begin) = self.receiving(i);
@@ -255,7 +255,7 @@ impl World {
             | Action::Rx {
                 start: Timestamp::Scheduled(time),
                 ..
-            } => time,
+            } => time.as_nanos(),
             _ => earliest,
         };
         assert!(earliest <= time, "the times that the hub keeps free can be kept");
@@ -327,15 +327,18 @@ impl World {
             }
             _ => station.phase = Phase::Off,
         }
+        let entry = LocalClockInstant::from_nanos(entry);
         self.call(i, Call::Entered { result, entry });
     }
 
     /// What the present task came to; a received frame is then whole in its buffer.
     fn leave(&mut self, i: usize) -> TaskResult {
         match self.stations[i].phase {
-            Phase::Sending { begin, .. } => TaskResult::Sent { time: begin },
+            Phase::Sending { begin, .. } => TaskResult::Sent {
+                time: LocalClockInstant::from_nanos(begin),
+            },
             Phase::Receiving(id) => {
-                let time = self.air.frames[id].end;
+                let time = LocalClockInstant::from_nanos(self.air.frames[id].end);
                 let quality = self.air.quality(id, self.stations[i].who);
                 if self.air.spoiled(id, self.stations[i].who) {
                     return TaskResult::Rx(RxResult::CrcError { time, quality });
@@ -398,7 +401,7 @@ impl World {
         };
         let to = self.stations[i].who;
         let received = self.stations[i].driver.received(answer)?;
-        let is_this = |each: &Flying| each.end == time && each.bytes == received.frame;
+        let is_this = |each: &Flying| each.end == time.as_nanos() && each.bytes == received.frame;
         let id = self.air.frames.iter().position(is_this).expect("it was on the air");
         assert_eq!(quality, self.air.quality(id, to), "the quality of this very frame");
         let from = sender_of(&received.info);

@@ -10,6 +10,14 @@
 
 #[path = "two_cranes/air.rs"]
 mod air;
+#[path = "two_cranes/driver.rs"]
+mod driver;
+#[path = "two_cranes/loose.rs"]
+mod loose;
+#[path = "two_cranes/model.rs"]
+mod model;
+#[path = "two_cranes/radio.rs"]
+mod radio;
 #[path = "two_cranes/station.rs"]
 mod station;
 #[path = "two_cranes/words.rs"]
@@ -19,8 +27,10 @@ mod world;
 
 use air::Who::{self, CellA, CellB, CellC, CellD, HandsetB, HubA, HubB, Port, ReaderB};
 use air::{Air, MICROSECOND};
-use station::{Heard, Link, Sender, Station, Told, Wanted, Weighed, Weighing};
-use widosha::{Address, Asked, Call, PreliminaryFrameInfo, Refusal, Response, Wait};
+use loose::{Ignores, Loose};
+use model::Model;
+use station::{Heard, Link, Sender, Station, Told, Wanted, Weighed, Weighing, ACK_BUFFER};
+use widosha::{Address, Asked, Buffers, Call, PreliminaryFrameInfo, Refusal, Response, Wait};
 use words::tonnes;
 use world::{sender_of, Event, Show, World, TURNAROUND};
 
@@ -76,11 +86,42 @@ fn answers(world: &World, container: &str) -> String {
     of_container.map(|(_, _, response)| letter(response)).collect()
 }
 
+/// What happens in scenes 1 to 6, by number.
+fn happens(world: &mut World, scene: usize) {
+    match scene {
+        1 => {
+            weigh(world, 0, CellA, "A1", 0x40);
+            weigh(world, 400, CellB, "B1", 0x3f);
+        }
+        2 => {
+            weigh(world, 0, CellB, "B2", 0x40);
+            weigh(world, 2, CellA, "A2", 0x41);
+        }
+        3 => {
+            weigh(world, 0, CellA, "A3", 0x42);
+            strangers(world, 0x42, 1_124, &[0x12, 0x00, 0x42]);
+        }
+        4 => {
+            weigh(world, 0, CellA, "A4", 0x43);
+            strangers(world, 0x43, 1_124, &[0x02, 0x00, 0x43, 0x00]);
+        }
+        5 => {
+            weigh(world, 0, CellA, "A5", 0x44);
+            world.plan_event(500, Event::Want(CellA, Wanted::Receive));
+            strangers(world, 0x44, 1_360, &[0x02, 0x00, 0x44]);
+        }
+        6 => {
+            weigh(world, 0, CellA, "A6", 0x45);
+            strangers(world, 0x45, 1_124, &[0x02, 0x00, 0x45]);
+        }
+        _ => panic!("the first six are run with other drivers too"),
+    }
+}
+
 fn quiet_exchange(world: &mut World) {
     title("1. Crane A alone, then crane B. Box A1: 18.0 t by the shipper, 18.2 t on the hook.");
     world.scene(Show::AllCallsOf(CellA));
-    weigh(world, 0, CellA, "A1", 0x40);
-    weigh(world, 400, CellB, "B1", 0x3f);
+    happens(world, 1);
     world.run();
     assert_eq!((answers(world, "A1"), answers(world, "B1")), ("S".into(), "ES".into()));
 }
@@ -88,8 +129,7 @@ fn quiet_exchange(world: &mut World) {
 fn one_bit(world: &mut World) {
     title("2. Both spreaders lock within 2 microseconds. Cell A waits for number 41, hub B acknowledges 40: one bit.");
     world.scene(Show::AllCallsOf(CellA));
-    weigh(world, 0, CellB, "B2", 0x40);
-    weigh(world, 2, CellA, "A2", 0x41);
+    happens(world, 2);
     world.run();
     assert_eq!((answers(world, "A2"), answers(world, "B2")), ("NS".into(), "S".into()));
 }
@@ -99,8 +139,7 @@ fn pending_bit(world: &mut World) {
         "3. A reader of another make acknowledges the same number, 42, with the pending bit set (12 00): for document 01 no ACK.",
     );
     world.scene(Show::CallsOfAckWait(CellA));
-    weigh(world, 0, CellA, "A3", 0x42);
-    strangers(world, 0x42, 1_124, &[0x12, 0x00, 0x42]);
+    happens(world, 3);
     world.run();
     assert_eq!(answers(world, "A3"), "NS");
 }
@@ -108,8 +147,7 @@ fn pending_bit(world: &mut World) {
 fn four_bytes(world: &mut World) {
     title("4. The reader sends the right three bytes and a fourth one.");
     world.scene(Show::CallsOfAckWait(CellA));
-    weigh(world, 0, CellA, "A4", 0x43);
-    strangers(world, 0x43, 1_124, &[0x02, 0x00, 0x43, 0x00]);
+    happens(world, 4);
     world.run();
     assert_eq!(answers(world, "A4"), "NS");
 }
@@ -117,9 +155,7 @@ fn four_bytes(world: &mut World) {
 fn wrong_wait(world: &mut World) {
     title("5. A perfect ACK for 44, but 230 microseconds too late: cell A is in another wait by then, listening for orders.");
     world.scene(Show::AllCallsOf(CellA));
-    weigh(world, 0, CellA, "A5", 0x44);
-    world.plan_event(500, Event::Want(CellA, Wanted::Receive));
-    strangers(world, 0x44, 1_360, &[0x02, 0x00, 0x44]);
+    happens(world, 5);
     world.run();
     assert_eq!(answers(world, "A5"), "NS");
 }
@@ -127,8 +163,7 @@ fn wrong_wait(world: &mut World) {
 fn same_number(world: &mut World) {
     title("6. What no driver can tell: the same number, 45, three bytes, within the same 10 microseconds.");
     world.scene(Show::CallsOfAckWait(CellA));
-    weigh(world, 0, CellA, "A6", 0x45);
-    strangers(world, 0x45, 1_124, &[0x02, 0x00, 0x45]);
+    happens(world, 6);
     world.run();
     assert_eq!(answers(world, "A6"), "S");
     assert!(!world.plan.contains_key("A6"));
@@ -180,7 +215,7 @@ fn check_told(world: &World) {
         assert_eq!(sender_of(&told.info), Sender { pan, address });
     }
     for station in &world.stations {
-        let ack = station.driver.frame(station.driver.settings().ack_buffer);
+        let ack = station.driver().frame(ACK_BUFFER);
         assert_eq!(ack.map(|frame| &frame[..3]), Some(&[0x02, 0x10, 0x00][..]));
     }
 }
@@ -347,10 +382,62 @@ fn check_left(world: &World, boxes: [Weighing; 3]) {
     );
     assert_eq!((world.plan.get("B5"), answers(world, "B5")), (None, String::new()));
     assert_eq!(world.charges, [(cell.as_sender(), 71)]);
-    assert!(cell.open.is_empty(), "every other request is answered");
+    assert!(cell.host().open.is_empty(), "every other request is answered");
 }
 
-// ---- The second evaluation. All rules but the first are deliberately wrong and are nowhere in the driver.
+// ---- Scenes 1 to 6 once more, with other drivers: a model of the documents, and the same with one rule loosened.
+
+/// The four stations of the two cranes.
+fn cranes(station: impl Fn(Who, u16, u16) -> Station) -> Vec<Station> {
+    vec![
+        station(HubA, 0xA00A, 0x0A00),
+        station(CellA, 0xA00A, 0x0A01),
+        station(HubB, 0xB00B, 0x0B00),
+        station(CellB, 0xB00B, 0x0B01),
+    ]
+}
+
+/// The hubs receive, before the first scene.
+fn open(world: &mut World) {
+    world.scene(Show::Nothing);
+    for hub in [HubA, HubB] {
+        world.plan_event(0, Event::Want(hub, Wanted::Receive));
+    }
+    world.run();
+}
+
+/// The same scenes where every station's driver is the model, and ignores this.
+fn run_of(ignores: Ignores) -> World {
+    let model = |settings| Model::start(settings, Loose::of(ignores));
+    let mut world = World::new(cranes(|who, pan, address| Station::of_model(who, pan, address, model)));
+    world.silent = true;
+    open(&mut world);
+    for scene in 1..=6 {
+        world.scene(Show::Nothing);
+        happens(&mut world, scene);
+        world.run();
+    }
+    world
+}
+
+/// The model with no rule loosened does what the proved driver does, call by call.
+fn check_model(world: &World) {
+    let model = run_of(Ignores::Nothing);
+    assert_eq!(model.calls.len(), world.calls.len());
+    for ((who, made), (of_model, same)) in world.calls.iter().zip(&model.calls) {
+        assert_eq!((who, made.call, made.result), (of_model, same.call, same.result));
+        assert_eq!(
+            (made.wait, &made.line),
+            (same.wait, &same.line),
+            "after {:?} of {}",
+            made.call,
+            who.name()
+        );
+    }
+    assert_eq!(model.plan, world.plan);
+}
+
+// ---- The same rules, applied to what the cells of the proved driver heard: what the runs come to is no accident of their times.
 
 type Rule = fn(&Heard) -> bool;
 
@@ -378,11 +465,11 @@ fn loose_any_wait(heard: &Heard) -> bool {
     heard.bytes.len() == 3 && control(heard) & 0xEFFF == 2 && heard.bytes[2] == heard.weighing.number
 }
 
-const RULES: [(Rule, &str, &str); 4] = [
-    (loose_lowest_bit, "A2", "the number's lowest bit"),
-    (loose_pending_bit, "A3", "the pending bit"),
-    (loose_length, "A4", "the length"),
-    (loose_any_wait, "A5", "which wait it is in"),
+const RULES: [(Ignores, Rule, &str, &str); 4] = [
+    (Ignores::LowestBit, loose_lowest_bit, "A2", "the number's lowest bit"),
+    (Ignores::PendingBit, loose_pending_bit, "A3", "the pending bit"),
+    (Ignores::Length, loose_length, "A4", "the length"),
+    (Ignores::Wait, loose_any_wait, "A5", "which wait it is in"),
 ];
 
 /// Whether a cell with this rule drops the container's weighing before the plan has it: at the first frame that it takes for the ACK.
@@ -392,7 +479,7 @@ fn loses(world: &World, rule: Rule, container: &str) -> bool {
     taken.next().is_some_and(|first| !first.in_plan)
 }
 
-fn show_plan(world: &World) {
+fn show_plan(world: &World, loose: &[World; 4]) {
     title("What the plan has of scenes 1 to 6, in tonnes; ! marks a box that keeps the shipper's mass");
     println!("                         this   the same driver, loose in one place, which ignores");
     println!("box  shipper  weighed  driver   lowest bit  pending bit  length   wait");
@@ -404,7 +491,7 @@ fn show_plan(world: &World) {
                 if lost { '!' } else { ' ' }
             )
         };
-        let [bit, pending, length, wait] = RULES.map(|(rule, _, _)| cell(loses(world, rule, name)));
+        let [bit, pending, length, wait] = loose.each_ref().map(|other| cell(!other.plan.contains_key(name)));
         let this = cell(!world.plan.contains_key(name));
         let (shipper, weighed) = (tonnes(shipper), tonnes(weighed));
         let row = format!("{name:<3}  {shipper:>7}  {weighed:>7}  {this:>8} {bit:>11} {pending:>12} {length:>7} {wait:>8}");
@@ -412,9 +499,9 @@ fn show_plan(world: &World) {
     }
 }
 
-fn show_losses(world: &World) {
+fn show_losses(world: &World, loose: &[World; 4]) {
     println!();
-    for (rule, container, what) in RULES {
+    for ((_, rule, container, what), other) in RULES.into_iter().zip(loose) {
         let known = CONTAINERS
             .iter()
             .find(|each| each.0 == container)
@@ -423,7 +510,8 @@ fn show_losses(world: &World) {
         println!("Ignoring {what}: the plan keeps the shipper's {shipper} t for box {container} of {weighed} t.");
         for Container(name, ..) in CONTAINERS {
             let expected = name == container || name == "A6";
-            assert_eq!(loses(world, rule, name), expected, "{what}: {name}");
+            assert_eq!(!other.plan.contains_key(name), expected, "{what}: {name}");
+            assert_eq!(loses(world, rule, name), expected, "by the rule alone, {what}: {name}");
         }
     }
     println!(
@@ -469,13 +557,7 @@ fn cell_of(world: &World, container: &str) -> Sender {
 }
 
 fn main() {
-    let stations = vec![
-        Station::new(HubA, 0xA00A, 0x0A00),
-        Station::new(CellA, 0xA00A, 0x0A01),
-        Station::new(HubB, 0xB00B, 0x0B00),
-        Station::new(CellB, 0xB00B, 0x0B01),
-    ];
-    let mut world = World::new(stations);
+    let mut world = World::new(cranes(Station::new));
     println!(
         "Two cranes in hearing. Times are simulated microseconds since the scene began; '=>' is a frame on the air (hexadecimal,"
     );
@@ -483,11 +565,7 @@ fn main() {
         "without checksum). Lines with '->' are calls to the proved driver, the action it gives, and in [] the wait it is then in."
     );
     println!("Link quality (0 to 255) is what the radio told of that very frame, as the driver's answer has it.");
-    world.scene(Show::Nothing);
-    for hub in [HubA, HubB] {
-        world.plan_event(0, Event::Want(hub, Wanted::Receive));
-    }
-    world.run();
+    open(&mut world);
     for scene in [quiet_exchange, one_bit, pending_bit, four_bytes, wrong_wait, same_number] {
         scene(&mut world);
     }
@@ -504,7 +582,9 @@ fn main() {
             "the driver's own rule explains box {name}"
         );
     }
-    show_plan(&world);
-    show_losses(&world);
+    check_model(&world);
+    let loose = RULES.map(|(ignores, ..)| run_of(ignores));
+    show_plan(&world, &loose);
+    show_losses(&world, &loose);
     show_aerials(&world, &links);
 }

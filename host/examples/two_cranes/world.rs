@@ -1,5 +1,6 @@
 //! Time, the stations and what happens to them: the radios obey the actions, and their outcomes are the next calls.
 use crate::air::{Air, Flying, Who, BEFORE_BYTES, BYTE, MICROSECOND};
+use crate::output::line;
 use crate::station::{Link, Made, Phase, Plan, Sender, Station, Told, Wanted, Weighed, Weighing};
 use crate::words;
 use std::collections::BTreeMap;
@@ -49,10 +50,12 @@ pub struct World {
     /// Every call that was made, with its station.
     pub calls: Vec<(Who, Made)>,
     pub show: Show,
+    /// Whether the calls that a scene shows are printed.
+    with_calls: bool,
 }
 
 impl World {
-    pub fn new(stations: Vec<Station>) -> Self {
+    pub fn new(stations: Vec<Station>, with_calls: bool) -> Self {
         World {
             now: 0,
             since: 0,
@@ -67,12 +70,14 @@ impl World {
             charges: Vec::new(),
             calls: Vec::new(),
             show: Show::Nothing,
+            with_calls,
         }
     }
 
-    /// Begins a scene at a whole second, from which its times are counted.
-    pub fn scene(&mut self, show: Show) {
-        self.since = (self.now / 1_000_000_000 + 1) * 1_000_000_000;
+    /// Begins the scene of this number, at the second of this number; its times are counted from there.
+    pub fn scene(&mut self, number: u64, show: Show) {
+        self.since = number * 1_000_000_000;
+        assert!(self.now <= self.since, "the scene before has ended");
         self.now = self.since;
         self.show = show;
     }
@@ -109,7 +114,7 @@ impl World {
     }
 
     pub fn say(&self, who: &str, text: &str) {
-        println!("{:>6}  {who:<9} {text}", (self.now - self.since) / MICROSECOND);
+        line!("{:>6}  {who:<9} {text}", (self.now - self.since) / MICROSECOND);
     }
 
     fn station(&self, who: Who) -> usize {
@@ -180,7 +185,7 @@ impl World {
                 || matches!(made.found, Some(Wait::Entering(Transition::Request(Left::ReceivingAck, _))));
             let shown = self.show == Show::AllCallsOf(who) || self.show == Show::CallsOfAckWait(who) && ack_wait;
             // None is then the call that is shown.
-            if shown && made.result != Err(Error::Refused(Refusal::NotAllowed)) {
+            if self.with_calls && shown && made.result != Err(Error::Refused(Refusal::NotAllowed)) {
                 self.say(who.name(), &words::made(&made, self.since));
             }
             for answer in made.result.map_or(Answers::None, |reply| reply.answers) {

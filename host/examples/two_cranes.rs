@@ -7,15 +7,26 @@
 //! received has a link quality; by these the last table names the aerial that is bent. The program checks what it tells: it ends
 //! with an error if an answer, a mass, a cell, a time, a link quality, what waits in a line or what is on the air is not the
 //! expected one.
+//!
+//!     two_cranes [-v] [--pcap FILE]
+//!
+//! It tells each frame and each answer; with -v the calls too. With --pcap the frames are written as a capture. Ends with 2 if it
+//! is called otherwise, or if the capture or the lines cannot be written.
 
 #[path = "two_cranes/air.rs"]
 mod air;
+#[path = "two_cranes/arguments.rs"]
+mod arguments;
+#[path = "two_cranes/capture.rs"]
+mod capture;
 #[path = "two_cranes/driver.rs"]
 mod driver;
 #[path = "two_cranes/loose.rs"]
 mod loose;
 #[path = "two_cranes/model.rs"]
 mod model;
+#[path = "two_cranes/output.rs"]
+mod output;
 #[path = "two_cranes/radio.rs"]
 mod radio;
 #[path = "two_cranes/station.rs"]
@@ -27,9 +38,14 @@ mod world;
 
 use air::Who::{self, CellA, CellB, CellC, CellD, HandsetB, HubA, HubB, Port, ReaderB};
 use air::{Air, MICROSECOND};
+use arguments::Arguments;
 use loose::{Ignores, Loose};
 use model::Model;
+use output::line;
 use station::{Heard, Link, Sender, Station, Told, Wanted, Weighed, Weighing, ACK_BUFFER};
+use std::env;
+use std::path::Path;
+use std::process::ExitCode;
 use widosha::{Address, Asked, Buffers, Call, PreliminaryFrameInfo, Refusal, Response, Wait};
 use words::tonnes;
 use world::{sender_of, Event, Show, World, TURNAROUND};
@@ -72,7 +88,7 @@ fn strangers(world: &mut World, number: u8, microseconds: u64, reader: &[u8]) {
 }
 
 fn title(text: &str) {
-    println!("\n{text}");
+    line!("\n{text}");
 }
 
 /// The answers of this container's request so far, in order: S for Sent, N for Nack, E for an error.
@@ -87,7 +103,7 @@ fn answers(world: &World, container: &str) -> String {
 }
 
 /// What happens in scenes 1 to 6, by number.
-fn happens(world: &mut World, scene: usize) {
+fn happens(world: &mut World, scene: u64) {
     match scene {
         1 => {
             weigh(world, 0, CellA, "A1", 0x40);
@@ -120,7 +136,7 @@ fn happens(world: &mut World, scene: usize) {
 
 fn quiet_exchange(world: &mut World) {
     title("1. Crane A alone, then crane B. Box A1: 18.0 t by the shipper, 18.2 t on the hook.");
-    world.scene(Show::AllCallsOf(CellA));
+    world.scene(1, Show::AllCallsOf(CellA));
     happens(world, 1);
     world.run();
     assert_eq!((answers(world, "A1"), answers(world, "B1")), ("S".into(), "ES".into()));
@@ -128,7 +144,7 @@ fn quiet_exchange(world: &mut World) {
 
 fn one_bit(world: &mut World) {
     title("2. Both spreaders lock within 2 microseconds. Cell A waits for number 41, hub B acknowledges 40: one bit.");
-    world.scene(Show::AllCallsOf(CellA));
+    world.scene(2, Show::AllCallsOf(CellA));
     happens(world, 2);
     world.run();
     assert_eq!((answers(world, "A2"), answers(world, "B2")), ("NS".into(), "S".into()));
@@ -138,7 +154,7 @@ fn pending_bit(world: &mut World) {
     title(
         "3. A reader of another make acknowledges the same number, 42, with the pending bit set (12 00): for document 01 no ACK.",
     );
-    world.scene(Show::CallsOfAckWait(CellA));
+    world.scene(3, Show::CallsOfAckWait(CellA));
     happens(world, 3);
     world.run();
     assert_eq!(answers(world, "A3"), "NS");
@@ -146,7 +162,7 @@ fn pending_bit(world: &mut World) {
 
 fn four_bytes(world: &mut World) {
     title("4. The reader sends the right three bytes and a fourth one.");
-    world.scene(Show::CallsOfAckWait(CellA));
+    world.scene(4, Show::CallsOfAckWait(CellA));
     happens(world, 4);
     world.run();
     assert_eq!(answers(world, "A4"), "NS");
@@ -154,7 +170,7 @@ fn four_bytes(world: &mut World) {
 
 fn wrong_wait(world: &mut World) {
     title("5. A perfect ACK for 44, but 230 microseconds too late: cell A is in another wait by then, listening for orders.");
-    world.scene(Show::AllCallsOf(CellA));
+    world.scene(5, Show::AllCallsOf(CellA));
     happens(world, 5);
     world.run();
     assert_eq!(answers(world, "A5"), "NS");
@@ -162,12 +178,12 @@ fn wrong_wait(world: &mut World) {
 
 fn same_number(world: &mut World) {
     title("6. What no driver can tell: the same number, 45, three bytes, within the same 10 microseconds.");
-    world.scene(Show::CallsOfAckWait(CellA));
+    world.scene(6, Show::CallsOfAckWait(CellA));
     happens(world, 6);
     world.run();
     assert_eq!(answers(world, "A6"), "S");
     assert!(!world.plan.contains_key("A6"));
-    println!(
+    line!(
         "        The standard's ACK has no address. Hub A never had box A6, and no driver that follows the standard can know it."
     );
 }
@@ -187,13 +203,12 @@ const CELLS: [(Who, u16, u16); 4] = [
     (CellD, 0xD00D, 0x0D01),
 ];
 
-/// Gives how well everyone was heard.
-fn time_broadcast() -> Vec<Link> {
+fn time_broadcast(with_calls: bool) -> World {
     title("7. The port's coordinator broadcasts the time and requests an ACK. The cells of four cranes hear it, and none replies.");
     let mut stations = Vec::from(CELLS.map(|(who, pan, address)| Station::new(who, pan, address)));
     stations.push(Station::new(HubA, 0xA00A, 0x0A00));
-    let mut world = World::new(stations);
-    world.scene(Show::AllCallsOf(CellA));
+    let mut world = World::new(stations, with_calls);
+    world.scene(7, Show::AllCallsOf(CellA));
     for (cell, ..) in CELLS {
         world.plan_event(0, Event::Want(cell, Wanted::Receive));
     }
@@ -203,7 +218,7 @@ fn time_broadcast() -> Vec<Link> {
     check_told(&world);
     let instead = acks_of_the_rust(&world.told);
     weigh_right_after(&mut world, &instead);
-    world.links
+    world
 }
 
 /// Every cell was told the time, by whom, and has written nothing into its ACK's frame.
@@ -231,19 +246,19 @@ fn ack_of_the_rust(info: &PreliminaryFrameInfo) -> Option<[u8; 3]> {
 /// The air as the Rust would have it after the broadcast: each ACK begins the ACK spacing after the frame has arrived.
 fn acks_of_the_rust(told: &[Told]) -> Air {
     let mut air = Air::default();
-    println!("        By the Rust's rule (for us, request bit, number), on the same facts, each of them would have sent an ACK:");
+    line!("        By the Rust's rule (for us, request bit, number), on the same facts, each of them would have sent an ACK:");
     for Told { who, info, arrived, .. } in told {
         let ack = ack_of_the_rust(info).expect("the broadcast has the request bit and a number");
         assert_eq!(ack, [0x02, 0x10, 0x07]);
         let begin = arrived + TURNAROUND;
-        println!("{:>6}  ({})  {}", begin / MICROSECOND, who.name(), words::hex(&ack));
+        line!("{:>6}  ({})  {}", begin / MICROSECOND, who.name(), words::hex(&ack));
         air.send(*who, begin, ack.to_vec());
     }
     for (id, frame) in air.frames.iter().enumerate() {
         assert_eq!(frame.begin, air.frames[0].begin, "all in the same microsecond");
         assert!([Port, HubA].iter().all(|to| air.spoiled(id, *to)), "over one another");
     }
-    println!("        Four in the same microsecond, over one another: none arrives whole, and none says whose it is.");
+    line!("        Four in the same microsecond, over one another: none arrives whole, and none says whose it is.");
     air
 }
 
@@ -259,9 +274,7 @@ fn weigh_right_after(world: &mut World, instead: &Air) {
     world.plan_event(1_050, Event::Want(HubA, Wanted::Receive));
     world.plan_event(1_240, Event::Want(CellA, Wanted::Send(weighing)));
     assert!(instead.is_busy(1_240 * MICROSECOND, CellA));
-    println!(
-        "        Hub A now listens, and cell A weighs a box at 1240. Its channel check finds the air free, not four ACKs on it:"
-    );
+    line!("        Hub A now listens, and cell A weighs a box at 1240. Its channel check finds the air free, not four ACKs on it:");
     world.run();
     assert_eq!(answers(world, container), "S");
     let by = world.stations[0].as_sender();
@@ -291,11 +304,11 @@ const LINE_OF_B: [(&str, u8, &str); 16] = [
     ("None: no request waits", 0, ""),
 ];
 
-fn full_line() {
+fn full_line(with_calls: bool) -> World {
     title("8. Cell B was out of hearing. Four wait, a fifth is told 12, one is withdrawn, and box B4 passes B3, which has a time.");
     let stations = vec![Station::new(HubB, 0xB00B, 0x0B00), Station::new(CellB, 0xB00B, 0x0B01)];
-    let mut world = World::new(stations);
-    world.scene(Show::AllCallsOf(CellB));
+    let mut world = World::new(stations, with_calls);
+    world.scene(8, Show::AllCallsOf(CellB));
     let box_of = |container, kilograms, number| Weighing {
         container,
         kilograms,
@@ -320,12 +333,13 @@ fn full_line() {
     world.run();
     check_line(&world);
     check_left(&world, [b4, b3, b6]);
-    println!(
+    line!(
         "        While it sends the report, which wants no ACK, only what has no time may follow: box B4 passed B3, which left at"
     );
-    println!(
+    line!(
         "        the next ask and had its time. Box B5 was set down again and never was on the air; its place was free for box B6."
     );
+    world
 }
 
 /// The line of cell B after each call that it decides, and the wait in which box B4 passed box B3.
@@ -399,7 +413,6 @@ fn cranes(station: impl Fn(Who, u16, u16) -> Station) -> Vec<Station> {
 
 /// The hubs receive, before the first scene.
 fn open(world: &mut World) {
-    world.scene(Show::Nothing);
     for hub in [HubA, HubB] {
         world.plan_event(0, Event::Want(hub, Wanted::Receive));
     }
@@ -409,11 +422,11 @@ fn open(world: &mut World) {
 /// The same scenes where every station's driver is the model, and ignores this.
 fn run_of(ignores: Ignores) -> World {
     let model = |settings| Model::start(settings, Loose::of(ignores));
-    let mut world = World::new(cranes(|who, pan, address| Station::of_model(who, pan, address, model)));
+    let mut world = World::new(cranes(|who, pan, address| Station::of_model(who, pan, address, model)), false);
     world.silent = true;
     open(&mut world);
     for scene in 1..=6 {
-        world.scene(Show::Nothing);
+        world.scene(scene, Show::Nothing);
         happens(&mut world, scene);
         world.run();
     }
@@ -481,8 +494,8 @@ fn loses(world: &World, rule: Rule, container: &str) -> bool {
 
 fn show_plan(world: &World, loose: &[World; 4]) {
     title("What the plan has of scenes 1 to 6, in tonnes; ! marks a box that keeps the shipper's mass");
-    println!("                         this   the same driver, loose in one place, which ignores");
-    println!("box  shipper  weighed  driver   lowest bit  pending bit  length   wait");
+    line!("                         this   the same driver, loose in one place, which ignores");
+    line!("box  shipper  weighed  driver   lowest bit  pending bit  length   wait");
     for Container(name, shipper, weighed) in CONTAINERS {
         let cell = |lost: bool| {
             format!(
@@ -495,29 +508,27 @@ fn show_plan(world: &World, loose: &[World; 4]) {
         let this = cell(!world.plan.contains_key(name));
         let (shipper, weighed) = (tonnes(shipper), tonnes(weighed));
         let row = format!("{name:<3}  {shipper:>7}  {weighed:>7}  {this:>8} {bit:>11} {pending:>12} {length:>7} {wait:>8}");
-        println!("{}", row.trim_end());
+        line!("{}", row.trim_end());
     }
 }
 
 fn show_losses(world: &World, loose: &[World; 4]) {
-    println!();
+    line!("");
     for ((_, rule, container, what), other) in RULES.into_iter().zip(loose) {
         let known = CONTAINERS
             .iter()
             .find(|each| each.0 == container)
             .expect("the container is listed");
         let (shipper, weighed) = (tonnes(known.1), tonnes(known.2));
-        println!("Ignoring {what}: the plan keeps the shipper's {shipper} t for box {container} of {weighed} t.");
+        line!("Ignoring {what}: the plan keeps the shipper's {shipper} t for box {container} of {weighed} t.");
         for Container(name, ..) in CONTAINERS {
             let expected = name == container || name == "A6";
             assert_eq!(!other.plan.contains_key(name), expected, "{what}: {name}");
             assert_eq!(loses(world, rule, name), expected, "by the rule alone, {what}: {name}");
         }
     }
-    println!(
-        "This driver sent those four again, and the plan has them. Box A6 is lost with every driver: a stray ACK with exactly"
-    );
-    println!("the awaited number, within the wait, is an ACK to the standard. Only a message above the driver can find that.");
+    line!("This driver sent those four again, and the plan has them. Box A6 is lost with every driver: a stray ACK with exactly");
+    line!("the awaited number, within the wait, is an ACK to the standard. Only a message above the driver can find that.");
 }
 
 /// What the table of aerials has for each cell: Nacks, frames, and whether all of these are weak.
@@ -528,7 +539,7 @@ fn show_aerials(world: &World, links: &[Link]) {
     title(
         "Is cell A at fault? Scenes 1 to 7: frames through each cell's aerial, to its hub or from the port, and their link quality",
     );
-    println!("cell    Nacks  frames  lowest  mean");
+    line!("cell    Nacks  frames  lowest  mean");
     for ((who, pan, address), expected) in CELLS.into_iter().zip(AERIALS) {
         let cell = Sender {
             pan,
@@ -543,10 +554,10 @@ fn show_aerials(world: &World, links: &[Link]) {
         let lowest = qualities.iter().min().expect("each cell was told the time");
         let mean = qualities.iter().map(|each| usize::from(*each)).sum::<usize>() / frames;
         let mark = if weak { "  weak" } else { "" };
-        println!("{:<6}  {nacks:>5}  {frames:>6}  {lowest:>6}  {mean:>4}{mark}", who.name());
+        line!("{:<6}  {nacks:>5}  {frames:>6}  {lowest:>6}  {mean:>4}{mark}", who.name());
     }
-    println!("What arrives from cell A is right, but its link is weak both ways, to its hub and from the port:");
-    println!("it is the aerial, not the cell.");
+    line!("What arrives from cell A is right, but its link is weak both ways, to its hub and from the port:");
+    line!("it is the aerial, not the cell.");
 }
 
 /// The cell of the container's crane.
@@ -556,35 +567,81 @@ fn cell_of(world: &World, container: &str) -> Sender {
     cells.next().expect("each crane has a cell").as_sender()
 }
 
-fn main() {
-    let mut world = World::new(cranes(Station::new));
-    println!(
+/// What the lines are.
+fn introduction(with_calls: bool) {
+    line!(
         "Two cranes in hearing. Times are simulated microseconds since the scene began; '=>' is a frame on the air (hexadecimal,"
     );
-    println!(
-        "without checksum). Lines with '->' are calls to the proved driver, the action it gives, and in [] the wait it is then in."
-    );
-    println!("Link quality (0 to 255) is what the radio told of that very frame, as the driver's answer has it.");
+    if with_calls {
+        line!("without checksum). Lines with '->' are calls to the proved driver, the action it gives, and in [] the wait it is then in.");
+    } else {
+        line!(
+            "without checksum), ANSWER is what the proved driver answers to a request. With -v its calls and actions are told too."
+        );
+    }
+    line!("Link quality (0 to 255) is what the radio told of that very frame, as the driver's answer has it.");
+}
+
+/// Both cranes, through scenes 1 to 6.
+fn two_cranes(with_calls: bool) -> World {
+    let mut world = World::new(cranes(Station::new), with_calls);
     open(&mut world);
     for scene in [quiet_exchange, one_bit, pending_bit, four_bytes, wrong_wait, same_number] {
         scene(&mut world);
     }
-    let mut links = time_broadcast();
-    full_line();
-    links.extend(&world.links);
+    world
+}
+
+/// The plan has the mass and the cell of every box but A6, and the driver's own rule says why.
+fn check_plan(world: &World) {
     for Container(name, _, kilograms) in CONTAINERS {
-        let by = cell_of(&world, name);
+        let by = cell_of(world, name);
         let weighed = Weighed { kilograms, by };
         assert_eq!(world.plan.get(name), (name != "A6").then_some(&weighed), "box {name}");
         assert_eq!(
-            loses(&world, exact, name),
+            loses(world, exact, name),
             name == "A6",
             "the driver's own rule explains box {name}"
         );
     }
+}
+
+/// The frames of all scenes as a capture. Says whether it was written.
+fn write_capture(path: &Path, worlds: &[&World]) -> bool {
+    let airs: Vec<&Air> = worlds.iter().map(|world| &world.air).collect();
+    let name = path.display();
+    match capture::write(path, &airs) {
+        Ok(frames) => {
+            line!(
+                "\n{name} has the {frames} frames, each with its checksum; scene 1 begins there at second 1, scene 2 at second 2."
+            );
+            true
+        }
+        Err(error) => {
+            output::complain(&format!("{name} cannot be written: {error}"));
+            false
+        }
+    }
+}
+
+fn main() -> ExitCode {
+    let Some(Arguments { with_calls, pcap }) = Arguments::read(env::args_os().skip(1)) else {
+        output::complain(arguments::USAGE);
+        return ExitCode::from(2);
+    };
+    introduction(with_calls);
+    let world = two_cranes(with_calls);
+    let with_port = time_broadcast(with_calls);
+    let with_line = full_line(with_calls);
+    let links: Vec<Link> = [&with_port, &world].into_iter().flat_map(|each| each.links.clone()).collect();
+    check_plan(&world);
     check_model(&world);
     let loose = RULES.map(|(ignores, ..)| run_of(ignores));
     show_plan(&world, &loose);
     show_losses(&world, &loose);
     show_aerials(&world, &links);
+    match pcap {
+        Some(path) if !write_capture(&path, &[&world, &with_port, &with_line]) => ExitCode::from(2),
+        _ => ExitCode::SUCCESS,
+    }
 }

@@ -1,5 +1,6 @@
 //! Time, the stations and what happens to them: when the radios have done what they were told, and what came of it.
 use crate::air::{Air, Flying, Who, BEFORE_BYTES, BYTE, MICROSECOND};
+use crate::output::line;
 use crate::radio::Phase;
 use crate::station::{Entry, Link, Made, Plan, Sender, Station, Told, Wanted, Weighed, Weighing};
 use crate::words;
@@ -52,10 +53,12 @@ pub struct World {
     pub show: Show,
     /// Whether nothing at all is printed.
     pub silent: bool,
+    /// Whether the calls that a scene shows are printed.
+    with_calls: bool,
 }
 
 impl World {
-    pub fn new(stations: Vec<Station>) -> Self {
+    pub fn new(stations: Vec<Station>, with_calls: bool) -> Self {
         World {
             now: 0,
             since: 0,
@@ -71,12 +74,14 @@ impl World {
             calls: Vec::new(),
             show: Show::Nothing,
             silent: false,
+            with_calls,
         }
     }
 
-    /// Begins a scene at a whole second, from which its times are counted.
-    pub fn scene(&mut self, show: Show) {
-        self.since = (self.now / 1_000_000_000 + 1) * 1_000_000_000;
+    /// Begins the scene of this number, at the second of this number; its times are counted from there.
+    pub fn scene(&mut self, number: u64, show: Show) {
+        self.since = number * 1_000_000_000;
+        assert!(self.now <= self.since, "the scene before has ended");
         self.now = self.since;
         self.show = show;
     }
@@ -116,7 +121,7 @@ impl World {
         if self.silent {
             return;
         }
-        println!("{:>6}  {who:<9} {text}", (self.now - self.since) / MICROSECOND);
+        line!("{:>6}  {who:<9} {text}", (self.now - self.since) / MICROSECOND);
     }
 
     fn station(&self, who: Who) -> usize {
@@ -177,7 +182,7 @@ impl World {
             || matches!(made.found, Some(Wait::Entering(Transition::Request(Left::ReceivingAck, _))));
         let shown = self.show == Show::AllCallsOf(who) || self.show == Show::CallsOfAckWait(who) && ack_wait;
         // None is then the call that is shown.
-        if shown && made.result != Err(Error::Refused(Refusal::NotAllowed)) {
+        if self.with_calls && shown && made.result != Err(Error::Refused(Refusal::NotAllowed)) {
             self.say(who.name(), &words::made(&made, self.since));
         }
         self.calls.push((who, made));

@@ -1,5 +1,5 @@
-# The host crate: its unit tests, its documented examples and its documentation; none of its functions can panic, nor can the
-# reader of captures; and the demonstration of the two cranes holds what it tells (it checks every answer, every mass, every link
+# The host crate: its unit tests, its documented examples and its documentation; its build says in a sentence where it cannot be; none of
+# its functions can panic, nor can the reader of captures; and the demonstration of the two cranes holds what it tells (it checks every answer, every mass, every link
 # quality and what waits in a line itself) and prints the same twice.
 set -e
 for each in cargo "${RUSTC:-rustc}"; do
@@ -18,6 +18,29 @@ host() {
 host test --lib
 host test --doc
 RUSTDOCFLAGS="-D warnings" host doc --no-deps
+
+# Where the target is another processor, or a library is not built yet, the build says so, in one sentence, and ends.
+cannot_be_built() {
+    local why=$1 said
+    shift
+    if said=$(CARGO_TARGET_DIR=$CARGO_TARGET_DIR/cannot host check "$@" 2>&1); then
+        echo "the host crate is built, though $why"
+        exit 1
+    fi
+    if [ "$(grep -c "cannot be built" <<<"$said")" != 1 ] || ! grep -qF "widosha cannot be built: $why" <<<"$said"; then
+        echo "the host crate is not built, and does not say that $why:"
+        echo "$said"
+        exit 1
+    fi
+}
+none=$CARGO_TARGET_DIR/cannot/no-libraries
+one=$CARGO_TARGET_DIR/cannot/one-library
+mkdir -p "$none" "$one"
+touch "$one/libdriver_c.a"
+WIDOSHA_LIB_DIR=$none cannot_be_built "there is no $none/libdriver_c.a yet"
+WIDOSHA_LIB_DIR=$one cannot_be_built "there is no $one/libframe_c.a yet"
+cannot_be_built "the proved libraries are code for x86-64 alone, and this build is for arm " --target thumbv7em-none-eabihf
+echo "the build says where it cannot be"
 
 if command -v nm >/dev/null; then
     out=$CARGO_TARGET_DIR/no-panic

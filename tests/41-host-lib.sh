@@ -29,7 +29,7 @@ if command -v nm >/dev/null; then
     }
     compile --crate-name widosha --crate-type rlib host/src/lib.rs -l static=driver_c -l static=frame_c
     compile --crate-type staticlib -C lto=fat -C codegen-units=1 host/checks/no_panic.rs --extern widosha="$out/libwidosha.rlib"
-    for each in start step bytes waiting facts pool time checksum capture; do
+    for each in start step bytes waiting facts pool time begin looped checksum capture; do
         if ! nm "$out/libno_panic.a" 2>/dev/null | grep -q " T $each\$"; then
             echo "the check for panics has no function $each"
             exit 1

@@ -112,7 +112,80 @@ pub extern "C" fn pool(pool: &mut Pool<4>, buffer: u8) -> u8 {
 
 #[no_mangle]
 pub extern "C" fn time(nanoseconds: u64) -> u64 {
-    LocalClockInstant::from_nanos(nanoseconds).max(LocalClockInstant::default()).as_nanos()
+    LocalClockInstant::from_nanos(nanoseconds)
+        .max(LocalClockInstant::default())
+        .as_nanos()
+}
+
+/// A radio and a host that have what they are given next, and keep what the loop gives them.
+pub struct Kept {
+    event: Option<RadioEvent>,
+    task: Option<RadioTask>,
+    request: Option<Request>,
+    answer: Option<Answer>,
+    sum: u8,
+}
+
+impl Radio for Kept {
+    fn begin(&mut self, task: RadioTask, buffers: &mut dyn Buffers) -> Option<RadioEvent> {
+        self.task = Some(task);
+        if let RadioTask::Tx { buffer, .. } | RadioTask::Rx { buffer, .. } = task {
+            self.sum ^= buffers.buffer(buffer).map_or(0, |whole| whole[0]);
+            self.sum ^= u8::from(buffers.buffer_ptr(buffer).is_some());
+        }
+        self.event.take()
+    }
+}
+
+impl Host for Kept {
+    fn next_request(&mut self, buffers: &mut dyn Buffers) -> Option<Request> {
+        let request = self.request.take()?;
+        buffers.put_frame(request.buffer, &[self.sum])?;
+        buffers.frame_mut(request.buffer)?[1] = self.sum;
+        buffers.buffer_mut(request.buffer)?[0] = self.sum;
+        Some(request)
+    }
+
+    fn answered(&mut self, answer: Answer, buffers: &dyn Buffers) {
+        self.answer = Some(answer);
+        self.sum ^= buffers.received(&answer).map_or(0, |received| received.frame.len() as u8);
+        self.sum ^= buffers.frame(answer.buffer).map_or(0, |frame| frame[0]);
+    }
+
+    fn refused(&mut self, request: Request, refusal: Refusal) {
+        self.request = None;
+        self.sum ^= refusal.number() ^ request.buffer;
+    }
+
+    fn made(&mut self, _: &Call, result: &Result<Reply, Error>, service: &dyn Service) {
+        self.sum ^= u8::from(result.is_ok()) ^ u8::from(service.wait().is_some());
+    }
+}
+
+type Looped<'p> = Station<DriverService<'p, 4>, Kept, Kept>;
+
+#[no_mangle]
+pub extern "C" fn begin<'p>(
+    settings: &Settings,
+    pool: &'p mut Pool<4>,
+    kept: &mut Option<[Kept; 2]>,
+    station: &mut Option<Looped<'p>>,
+) {
+    if let Some([radio, host]) = kept.take() {
+        *station = Station::start(*settings, pool, radio, host).ok();
+    }
+}
+
+#[no_mangle]
+pub extern "C" fn looped(station: &mut Looped, event: &RadioEvent, request: &Request, result: &mut Result<(), Error>) -> u8 {
+    *result = station.host_has_more();
+    station.radio_mut().0.event = Some(*event);
+    station.host_mut().0.request = Some(*request);
+    *result = result.and(station.told(*event)).and(station.arrive(*request));
+    *result = result.and(station.withdraw(request.token).map(|_| ()));
+    let task = RadioTask::of(station.action()).is_some() || HostTask::of(station.action()).is_some();
+    let known = task || station.radio().task.is_some() || station.host().answer.is_some();
+    station.service().state()[0] ^ u8::from(known)
 }
 
 #[no_mangle]

@@ -10,7 +10,7 @@
 //!
 //!     two_cranes [-v] [--pcap FILE]
 //!
-//! It tells each frame and each answer; with -v the calls too. With --pcap the frames are written as a capture. Ends with 2 if it
+//! It prints each frame and each answer; with -v the calls too. With --pcap the frames are written as a capture. Ends with 2 if it
 //! is called otherwise, or if the capture or the lines cannot be written.
 
 #[path = "two_cranes/air.rs"]
@@ -19,8 +19,16 @@ mod air;
 mod arguments;
 #[path = "two_cranes/capture.rs"]
 mod capture;
+#[path = "two_cranes/driver.rs"]
+mod driver;
+#[path = "two_cranes/loose.rs"]
+mod loose;
+#[path = "two_cranes/model.rs"]
+mod model;
 #[path = "two_cranes/output.rs"]
 mod output;
+#[path = "two_cranes/radio.rs"]
+mod radio;
 #[path = "two_cranes/station.rs"]
 mod station;
 #[path = "two_cranes/words.rs"]
@@ -31,14 +39,17 @@ mod world;
 use air::Who::{self, CellA, CellB, CellC, CellD, HandsetB, HubA, HubB, Port, ReaderB};
 use air::{Air, MICROSECOND};
 use arguments::Arguments;
+use loose::{Ignores, Loose};
+use model::Model;
 use output::line;
-use station::{Heard, Link, Sender, Station, Told, Wanted, Weighed, Weighing};
+use station::{Heard, Link, Sender, Station, Told, Wanted, Weighed, Weighing, ACK_BUFFER};
 use std::env;
+use std::io;
 use std::path::Path;
 use std::process::ExitCode;
-use widosha::{Address, Asked, Call, PreliminaryFrameInfo, Refusal, Response, Wait};
+use widosha::{Address, Asked, Buffers, Call, PreliminaryFrameInfo, Refusal, Response, Wait};
 use words::tonnes;
-use world::{sender_of, Event, Show, World, TURNAROUND};
+use world::{sender_of, Event, Show, Tells, World, TURNAROUND};
 
 /// A container: its name, the mass that the shipper declared and the mass that the cell weighs, in kilograms.
 struct Container(&'static str, u32, u32);
@@ -92,11 +103,42 @@ fn answers(world: &World, container: &str) -> String {
     of_container.map(|(_, _, response)| letter(response)).collect()
 }
 
+/// What happens in scenes 1 to 6, by number.
+fn happens(world: &mut World, scene: u64) {
+    match scene {
+        1 => {
+            weigh(world, 0, CellA, "A1", 0x40);
+            weigh(world, 400, CellB, "B1", 0x3f);
+        }
+        2 => {
+            weigh(world, 0, CellB, "B2", 0x40);
+            weigh(world, 2, CellA, "A2", 0x41);
+        }
+        3 => {
+            weigh(world, 0, CellA, "A3", 0x42);
+            strangers(world, 0x42, 1_124, &[0x12, 0x00, 0x42]);
+        }
+        4 => {
+            weigh(world, 0, CellA, "A4", 0x43);
+            strangers(world, 0x43, 1_124, &[0x02, 0x00, 0x43, 0x00]);
+        }
+        5 => {
+            weigh(world, 0, CellA, "A5", 0x44);
+            world.plan_event(500, Event::Want(CellA, Wanted::Receive));
+            strangers(world, 0x44, 1_360, &[0x02, 0x00, 0x44]);
+        }
+        6 => {
+            weigh(world, 0, CellA, "A6", 0x45);
+            strangers(world, 0x45, 1_124, &[0x02, 0x00, 0x45]);
+        }
+        _ => panic!("the first six are run with other drivers too"),
+    }
+}
+
 fn quiet_exchange(world: &mut World) {
     title("1. Crane A alone, then crane B. Box A1: 18.0 t by the shipper, 18.2 t on the hook.");
     world.scene(1, Show::AllCallsOf(CellA));
-    weigh(world, 0, CellA, "A1", 0x40);
-    weigh(world, 400, CellB, "B1", 0x3f);
+    happens(world, 1);
     world.run();
     assert_eq!((answers(world, "A1"), answers(world, "B1")), ("S".into(), "ES".into()));
 }
@@ -104,8 +146,7 @@ fn quiet_exchange(world: &mut World) {
 fn one_bit(world: &mut World) {
     title("2. Both spreaders lock within 2 microseconds. Cell A waits for number 41, hub B acknowledges 40: one bit.");
     world.scene(2, Show::AllCallsOf(CellA));
-    weigh(world, 0, CellB, "B2", 0x40);
-    weigh(world, 2, CellA, "A2", 0x41);
+    happens(world, 2);
     world.run();
     assert_eq!((answers(world, "A2"), answers(world, "B2")), ("NS".into(), "S".into()));
 }
@@ -115,8 +156,7 @@ fn pending_bit(world: &mut World) {
         "3. A reader of another make acknowledges the same number, 42, with the pending bit set (12 00): for document 01 no ACK.",
     );
     world.scene(3, Show::CallsOfAckWait(CellA));
-    weigh(world, 0, CellA, "A3", 0x42);
-    strangers(world, 0x42, 1_124, &[0x12, 0x00, 0x42]);
+    happens(world, 3);
     world.run();
     assert_eq!(answers(world, "A3"), "NS");
 }
@@ -124,8 +164,7 @@ fn pending_bit(world: &mut World) {
 fn four_bytes(world: &mut World) {
     title("4. The reader sends the right three bytes and a fourth one.");
     world.scene(4, Show::CallsOfAckWait(CellA));
-    weigh(world, 0, CellA, "A4", 0x43);
-    strangers(world, 0x43, 1_124, &[0x02, 0x00, 0x43, 0x00]);
+    happens(world, 4);
     world.run();
     assert_eq!(answers(world, "A4"), "NS");
 }
@@ -133,9 +172,7 @@ fn four_bytes(world: &mut World) {
 fn wrong_wait(world: &mut World) {
     title("5. A perfect ACK for 44, but 230 microseconds too late: cell A is in another wait by then, listening for orders.");
     world.scene(5, Show::AllCallsOf(CellA));
-    weigh(world, 0, CellA, "A5", 0x44);
-    world.plan_event(500, Event::Want(CellA, Wanted::Receive));
-    strangers(world, 0x44, 1_360, &[0x02, 0x00, 0x44]);
+    happens(world, 5);
     world.run();
     assert_eq!(answers(world, "A5"), "NS");
 }
@@ -143,8 +180,7 @@ fn wrong_wait(world: &mut World) {
 fn same_number(world: &mut World) {
     title("6. What no driver can tell: the same number, 45, three bytes, within the same 10 microseconds.");
     world.scene(6, Show::CallsOfAckWait(CellA));
-    weigh(world, 0, CellA, "A6", 0x45);
-    strangers(world, 0x45, 1_124, &[0x02, 0x00, 0x45]);
+    happens(world, 6);
     world.run();
     assert_eq!(answers(world, "A6"), "S");
     assert!(!world.plan.contains_key("A6"));
@@ -168,11 +204,11 @@ const CELLS: [(Who, u16, u16); 4] = [
     (CellD, 0xD00D, 0x0D01),
 ];
 
-fn time_broadcast(with_calls: bool) -> World {
+fn time_broadcast(tells: Tells) -> World {
     title("7. The port's coordinator broadcasts the time and requests an ACK. The cells of four cranes hear it, and none replies.");
     let mut stations = Vec::from(CELLS.map(|(who, pan, address)| Station::new(who, pan, address)));
     stations.push(Station::new(HubA, 0xA00A, 0x0A00));
-    let mut world = World::new(stations, with_calls);
+    let mut world = World::new(stations, tells);
     world.scene(7, Show::AllCallsOf(CellA));
     for (cell, ..) in CELLS {
         world.plan_event(0, Event::Want(cell, Wanted::Receive));
@@ -195,7 +231,7 @@ fn check_told(world: &World) {
         assert_eq!(sender_of(&told.info), Sender { pan, address });
     }
     for station in &world.stations {
-        let ack = station.driver.frame(station.driver.settings().ack_buffer);
+        let ack = station.driver().frame(ACK_BUFFER);
         assert_eq!(ack.map(|frame| &frame[..3]), Some(&[0x02, 0x10, 0x00][..]));
     }
 }
@@ -269,10 +305,10 @@ const LINE_OF_B: [(&str, u8, &str); 16] = [
     ("None: no request waits", 0, ""),
 ];
 
-fn full_line(with_calls: bool) -> World {
+fn full_line(tells: Tells) -> World {
     title("8. Cell B was out of hearing. Four wait, a fifth is told 12, one is withdrawn, and box B4 passes B3, which has a time.");
     let stations = vec![Station::new(HubB, 0xB00B, 0x0B00), Station::new(CellB, 0xB00B, 0x0B01)];
-    let mut world = World::new(stations, with_calls);
+    let mut world = World::new(stations, tells);
     world.scene(8, Show::AllCallsOf(CellB));
     let box_of = |container, kilograms, number| Weighing {
         container,
@@ -361,10 +397,61 @@ fn check_left(world: &World, boxes: [Weighing; 3]) {
     );
     assert_eq!((world.plan.get("B5"), answers(world, "B5")), (None, String::new()));
     assert_eq!(world.charges, [(cell.as_sender(), 71)]);
-    assert!(cell.open.is_empty(), "every other request is answered");
+    assert!(cell.host().open.is_empty(), "every other request is answered");
 }
 
-// ---- The second evaluation. All rules but the first are deliberately wrong and are nowhere in the driver.
+// ---- Scenes 1 to 6 once more, with other drivers: a model of the documents, and the same with one rule loosened.
+
+/// The four stations of the two cranes.
+fn cranes(station: impl Fn(Who, u16, u16) -> Station) -> Vec<Station> {
+    vec![
+        station(HubA, 0xA00A, 0x0A00),
+        station(CellA, 0xA00A, 0x0A01),
+        station(HubB, 0xB00B, 0x0B00),
+        station(CellB, 0xB00B, 0x0B01),
+    ]
+}
+
+/// The hubs receive, before the first scene.
+fn open(world: &mut World) {
+    for hub in [HubA, HubB] {
+        world.plan_event(0, Event::Want(hub, Wanted::Receive));
+    }
+    world.run();
+}
+
+/// The same scenes where every station's driver is the model, and ignores this.
+fn run_of(ignores: Ignores) -> World {
+    let model = |settings| Model::start(settings, Loose::of(ignores));
+    let stations = cranes(|who, pan, address| Station::of_model(who, pan, address, model));
+    let mut world = World::new(stations, Tells::Nothing);
+    open(&mut world);
+    for scene in 1..=6 {
+        world.scene(scene, Show::Nothing);
+        happens(&mut world, scene);
+        world.run();
+    }
+    world
+}
+
+/// The model with no rule loosened does what the proved driver does, call by call.
+fn check_model(world: &World) {
+    let model = run_of(Ignores::Nothing);
+    assert_eq!(model.calls.len(), world.calls.len());
+    for ((who, made), (of_model, same)) in world.calls.iter().zip(&model.calls) {
+        assert_eq!((who, made.call, made.result), (of_model, same.call, same.result));
+        assert_eq!(
+            (made.wait, &made.line),
+            (same.wait, &same.line),
+            "after {:?} of {}",
+            made.call,
+            who.name()
+        );
+    }
+    assert_eq!(model.plan, world.plan);
+}
+
+// ---- The same rules, applied to what the cells of the proved driver heard: what the runs come to is no accident of their times.
 
 type Rule = fn(&Heard) -> bool;
 
@@ -392,11 +479,11 @@ fn loose_any_wait(heard: &Heard) -> bool {
     heard.bytes.len() == 3 && control(heard) & 0xEFFF == 2 && heard.bytes[2] == heard.weighing.number
 }
 
-const RULES: [(Rule, &str, &str); 4] = [
-    (loose_lowest_bit, "A2", "the number's lowest bit"),
-    (loose_pending_bit, "A3", "the pending bit"),
-    (loose_length, "A4", "the length"),
-    (loose_any_wait, "A5", "which wait it is in"),
+const RULES: [(Ignores, Rule, &str, &str); 4] = [
+    (Ignores::LowestBit, loose_lowest_bit, "A2", "the number's lowest bit"),
+    (Ignores::PendingBit, loose_pending_bit, "A3", "the pending bit"),
+    (Ignores::Length, loose_length, "A4", "the length"),
+    (Ignores::Wait, loose_any_wait, "A5", "which wait it is in"),
 ];
 
 /// Whether a cell with this rule drops the container's weighing before the plan has it: at the first frame that it takes for the ACK.
@@ -406,7 +493,7 @@ fn loses(world: &World, rule: Rule, container: &str) -> bool {
     taken.next().is_some_and(|first| !first.in_plan)
 }
 
-fn show_plan(world: &World) {
+fn show_plan(world: &World, loose: &[World; 4]) {
     title("What the plan has of scenes 1 to 6, in tonnes; ! marks a box that keeps the shipper's mass");
     line!("                         this   the same driver, loose in one place, which ignores");
     line!("box  shipper  weighed  driver   lowest bit  pending bit  length   wait");
@@ -418,7 +505,7 @@ fn show_plan(world: &World) {
                 if lost { '!' } else { ' ' }
             )
         };
-        let [bit, pending, length, wait] = RULES.map(|(rule, _, _)| cell(loses(world, rule, name)));
+        let [bit, pending, length, wait] = loose.each_ref().map(|other| cell(!other.plan.contains_key(name)));
         let this = cell(!world.plan.contains_key(name));
         let (shipper, weighed) = (tonnes(shipper), tonnes(weighed));
         let row = format!("{name:<3}  {shipper:>7}  {weighed:>7}  {this:>8} {bit:>11} {pending:>12} {length:>7} {wait:>8}");
@@ -426,9 +513,9 @@ fn show_plan(world: &World) {
     }
 }
 
-fn show_losses(world: &World) {
+fn show_losses(world: &World, loose: &[World; 4]) {
     line!("");
-    for (rule, container, what) in RULES {
+    for ((_, rule, container, what), other) in RULES.into_iter().zip(loose) {
         let known = CONTAINERS
             .iter()
             .find(|each| each.0 == container)
@@ -437,7 +524,8 @@ fn show_losses(world: &World) {
         line!("Ignoring {what}: the plan keeps the shipper's {shipper} t for box {container} of {weighed} t.");
         for Container(name, ..) in CONTAINERS {
             let expected = name == container || name == "A6";
-            assert_eq!(loses(world, rule, name), expected, "{what}: {name}");
+            assert_eq!(!other.plan.contains_key(name), expected, "{what}: {name}");
+            assert_eq!(loses(world, rule, name), expected, "by the rule alone, {what}: {name}");
         }
     }
     line!("This driver sent those four again, and the plan has them. Box A6 is lost with every driver: a stray ACK with exactly");
@@ -481,33 +569,22 @@ fn cell_of(world: &World, container: &str) -> Sender {
 }
 
 /// What the lines are.
-fn introduction(with_calls: bool) {
+fn introduction(tells: Tells) {
     line!(
         "Two cranes in hearing. Times are simulated microseconds since the scene began; '=>' is a frame on the air (hexadecimal,"
     );
-    if with_calls {
+    if tells == Tells::StoryAndCalls {
         line!("without checksum). Lines with '->' are calls to the proved driver, the action it gives, and in [] the wait it is then in.");
     } else {
-        line!(
-            "without checksum), ANSWER is what the proved driver answers to a request. With -v its calls and actions are told too."
-        );
+        line!("without checksum), ANSWER what the proved driver answers to a request. With -v its calls and actions are told too.");
     }
     line!("Link quality (0 to 255) is what the radio told of that very frame, as the driver's answer has it.");
 }
 
-/// Both cranes, through scenes 1 to 6.
-fn two_cranes(with_calls: bool) -> World {
-    let stations = vec![
-        Station::new(HubA, 0xA00A, 0x0A00),
-        Station::new(CellA, 0xA00A, 0x0A01),
-        Station::new(HubB, 0xB00B, 0x0B00),
-        Station::new(CellB, 0xB00B, 0x0B01),
-    ];
-    let mut world = World::new(stations, with_calls);
-    for hub in [HubA, HubB] {
-        world.plan_event(0, Event::Want(hub, Wanted::Receive));
-    }
-    world.run();
+/// Scenes 1 to 6.
+fn two_cranes(tells: Tells) -> World {
+    let mut world = World::new(cranes(Station::new), tells);
+    open(&mut world);
     for scene in [quiet_exchange, one_bit, pending_bit, four_bytes, wrong_wait, same_number] {
         scene(&mut world);
     }
@@ -528,40 +605,36 @@ fn check_plan(world: &World) {
     }
 }
 
-/// The frames of all scenes as a capture. Says whether it was written.
-fn write_capture(path: &Path, worlds: &[&World]) -> bool {
+/// The frames of all scenes as a capture.
+fn write_capture(path: &Path, worlds: &[&World]) -> io::Result<()> {
     let airs: Vec<&Air> = worlds.iter().map(|world| &world.air).collect();
+    let frames = capture::write(path, &airs)?;
     let name = path.display();
-    match capture::write(path, &airs) {
-        Ok(frames) => {
-            line!(
-                "\n{name} has the {frames} frames, each with its checksum; scene 1 begins there at second 1, scene 2 at second 2."
-            );
-            true
-        }
-        Err(error) => {
-            output::complain(&format!("{name} cannot be written: {error}"));
-            false
-        }
-    }
+    line!("\n{name} has the {frames} frames, each with its checksum; scene 1 begins there at second 1, scene 2 at second 2.");
+    Ok(())
 }
 
 fn main() -> ExitCode {
-    let Some(Arguments { with_calls, pcap }) = Arguments::read(env::args_os().skip(1)) else {
+    let Some(Arguments { tells, pcap }) = Arguments::read(env::args_os().skip(1)) else {
         output::complain(arguments::USAGE);
         return ExitCode::from(2);
     };
-    introduction(with_calls);
-    let world = two_cranes(with_calls);
-    let with_port = time_broadcast(with_calls);
-    let with_line = full_line(with_calls);
-    let links: Vec<Link> = [&with_port, &world].into_iter().flat_map(|each| each.links.clone()).collect();
+    introduction(tells);
+    let world = two_cranes(tells);
+    let with_port = time_broadcast(tells);
+    let with_line = full_line(tells);
     check_plan(&world);
-    show_plan(&world);
-    show_losses(&world);
+    check_model(&world);
+    let loose = RULES.map(|(ignores, ..)| run_of(ignores));
+    show_plan(&world, &loose);
+    show_losses(&world, &loose);
+    let links: Vec<Link> = with_port.links.iter().chain(&world.links).copied().collect();
     show_aerials(&world, &links);
-    match pcap {
-        Some(path) if !write_capture(&path, &[&world, &with_port, &with_line]) => ExitCode::from(2),
-        _ => ExitCode::SUCCESS,
+    if let Some(path) = pcap {
+        if let Err(error) = write_capture(&path, &[&world, &with_port, &with_line]) {
+            output::complain(&format!("{} cannot be written: {error}", path.display()));
+            return ExitCode::from(2);
+        }
     }
+    ExitCode::SUCCESS
 }

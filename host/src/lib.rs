@@ -119,6 +119,7 @@ mod raw;
 mod reply;
 mod service;
 mod settings;
+mod station;
 mod time;
 mod wait;
 
@@ -130,5 +131,6 @@ pub use line::LINE_CAPACITY;
 pub use reply::{Action, Answer, Answers, Ifs, Reply, Response, Spacing, StopListening, TaskDirection};
 pub use service::DriverService;
 pub use settings::{FcsLength, Pool, Settings, FRAME_LENGTH};
+pub use station::{Buffers, Host, HostTask, Radio, RadioEvent, RadioTask, Service, Station};
 pub use time::LocalClockInstant;
 pub use wait::{Asked, Left, Next, Stop, Transition, Wait};

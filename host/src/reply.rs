@@ -140,6 +140,13 @@ pub struct Answer {
     pub response: Response,
 }
 
+impl Answer {
+    /// An answer of something else than the library: of a model in the place of the service (`Service`).
+    pub const fn new(token: u32, buffer: u8, response: Response) -> Self {
+        Self { token, buffer, response }
+    }
+}
+
 /// Up to two answers, the earlier request's first.
 #[derive(Clone, Copy, Debug, PartialEq, Eq)]
 pub enum Answers {

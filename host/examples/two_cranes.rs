@@ -10,7 +10,7 @@
 //!
 //!     two_cranes [-v] [--pcap FILE]
 //!
-//! It tells each frame and each answer; with -v the calls too. With --pcap the frames are written as a capture. Ends with 2 if it
+//! It prints each frame and each answer; with -v the calls too. With --pcap the frames are written as a capture. Ends with 2 if it
 //! is called otherwise, or if the capture or the lines cannot be written.
 
 #[path = "two_cranes/air.rs"]
@@ -44,11 +44,12 @@ use model::Model;
 use output::line;
 use station::{Heard, Link, Sender, Station, Told, Wanted, Weighed, Weighing, ACK_BUFFER};
 use std::env;
+use std::io;
 use std::path::Path;
 use std::process::ExitCode;
 use widosha::{Address, Asked, Buffers, Call, PreliminaryFrameInfo, Refusal, Response, Wait};
 use words::tonnes;
-use world::{sender_of, Event, Show, World, TURNAROUND};
+use world::{sender_of, Event, Show, Tells, World, TURNAROUND};
 
 /// A container: its name, the mass that the shipper declared and the mass that the cell weighs, in kilograms.
 struct Container(&'static str, u32, u32);
@@ -203,11 +204,11 @@ const CELLS: [(Who, u16, u16); 4] = [
     (CellD, 0xD00D, 0x0D01),
 ];
 
-fn time_broadcast(with_calls: bool) -> World {
+fn time_broadcast(tells: Tells) -> World {
     title("7. The port's coordinator broadcasts the time and requests an ACK. The cells of four cranes hear it, and none replies.");
     let mut stations = Vec::from(CELLS.map(|(who, pan, address)| Station::new(who, pan, address)));
     stations.push(Station::new(HubA, 0xA00A, 0x0A00));
-    let mut world = World::new(stations, with_calls);
+    let mut world = World::new(stations, tells);
     world.scene(7, Show::AllCallsOf(CellA));
     for (cell, ..) in CELLS {
         world.plan_event(0, Event::Want(cell, Wanted::Receive));
@@ -304,10 +305,10 @@ const LINE_OF_B: [(&str, u8, &str); 16] = [
     ("None: no request waits", 0, ""),
 ];
 
-fn full_line(with_calls: bool) -> World {
+fn full_line(tells: Tells) -> World {
     title("8. Cell B was out of hearing. Four wait, a fifth is told 12, one is withdrawn, and box B4 passes B3, which has a time.");
     let stations = vec![Station::new(HubB, 0xB00B, 0x0B00), Station::new(CellB, 0xB00B, 0x0B01)];
-    let mut world = World::new(stations, with_calls);
+    let mut world = World::new(stations, tells);
     world.scene(8, Show::AllCallsOf(CellB));
     let box_of = |container, kilograms, number| Weighing {
         container,
@@ -422,8 +423,8 @@ fn open(world: &mut World) {
 /// The same scenes where every station's driver is the model, and ignores this.
 fn run_of(ignores: Ignores) -> World {
     let model = |settings| Model::start(settings, Loose::of(ignores));
-    let mut world = World::new(cranes(|who, pan, address| Station::of_model(who, pan, address, model)), false);
-    world.silent = true;
+    let stations = cranes(|who, pan, address| Station::of_model(who, pan, address, model));
+    let mut world = World::new(stations, Tells::Nothing);
     open(&mut world);
     for scene in 1..=6 {
         world.scene(scene, Show::Nothing);
@@ -568,23 +569,21 @@ fn cell_of(world: &World, container: &str) -> Sender {
 }
 
 /// What the lines are.
-fn introduction(with_calls: bool) {
+fn introduction(tells: Tells) {
     line!(
         "Two cranes in hearing. Times are simulated microseconds since the scene began; '=>' is a frame on the air (hexadecimal,"
     );
-    if with_calls {
+    if tells == Tells::StoryAndCalls {
         line!("without checksum). Lines with '->' are calls to the proved driver, the action it gives, and in [] the wait it is then in.");
     } else {
-        line!(
-            "without checksum), ANSWER is what the proved driver answers to a request. With -v its calls and actions are told too."
-        );
+        line!("without checksum), ANSWER what the proved driver answers to a request. With -v its calls and actions are told too.");
     }
     line!("Link quality (0 to 255) is what the radio told of that very frame, as the driver's answer has it.");
 }
 
-/// Both cranes, through scenes 1 to 6.
-fn two_cranes(with_calls: bool) -> World {
-    let mut world = World::new(cranes(Station::new), with_calls);
+/// Scenes 1 to 6.
+fn two_cranes(tells: Tells) -> World {
+    let mut world = World::new(cranes(Station::new), tells);
     open(&mut world);
     for scene in [quiet_exchange, one_bit, pending_bit, four_bytes, wrong_wait, same_number] {
         scene(&mut world);
@@ -606,42 +605,36 @@ fn check_plan(world: &World) {
     }
 }
 
-/// The frames of all scenes as a capture. Says whether it was written.
-fn write_capture(path: &Path, worlds: &[&World]) -> bool {
+/// The frames of all scenes as a capture.
+fn write_capture(path: &Path, worlds: &[&World]) -> io::Result<()> {
     let airs: Vec<&Air> = worlds.iter().map(|world| &world.air).collect();
+    let frames = capture::write(path, &airs)?;
     let name = path.display();
-    match capture::write(path, &airs) {
-        Ok(frames) => {
-            line!(
-                "\n{name} has the {frames} frames, each with its checksum; scene 1 begins there at second 1, scene 2 at second 2."
-            );
-            true
-        }
-        Err(error) => {
-            output::complain(&format!("{name} cannot be written: {error}"));
-            false
-        }
-    }
+    line!("\n{name} has the {frames} frames, each with its checksum; scene 1 begins there at second 1, scene 2 at second 2.");
+    Ok(())
 }
 
 fn main() -> ExitCode {
-    let Some(Arguments { with_calls, pcap }) = Arguments::read(env::args_os().skip(1)) else {
+    let Some(Arguments { tells, pcap }) = Arguments::read(env::args_os().skip(1)) else {
         output::complain(arguments::USAGE);
         return ExitCode::from(2);
     };
-    introduction(with_calls);
-    let world = two_cranes(with_calls);
-    let with_port = time_broadcast(with_calls);
-    let with_line = full_line(with_calls);
-    let links: Vec<Link> = [&with_port, &world].into_iter().flat_map(|each| each.links.clone()).collect();
+    introduction(tells);
+    let world = two_cranes(tells);
+    let with_port = time_broadcast(tells);
+    let with_line = full_line(tells);
     check_plan(&world);
     check_model(&world);
     let loose = RULES.map(|(ignores, ..)| run_of(ignores));
     show_plan(&world, &loose);
     show_losses(&world, &loose);
+    let links: Vec<Link> = with_port.links.iter().chain(&world.links).copied().collect();
     show_aerials(&world, &links);
-    match pcap {
-        Some(path) if !write_capture(&path, &[&world, &with_port, &with_line]) => ExitCode::from(2),
-        _ => ExitCode::SUCCESS,
+    if let Some(path) = pcap {
+        if let Err(error) = write_capture(&path, &[&world, &with_port, &with_line]) {
+            output::complain(&format!("{} cannot be written: {error}", path.display()));
+            return ExitCode::from(2);
+        }
     }
+    ExitCode::SUCCESS
 }

@@ -1,13 +1,12 @@
 //! What the program is called with.
+use crate::world::Tells;
 use std::ffi::OsString;
 use std::path::PathBuf;
 
 pub const USAGE: &str = "usage: ./run [-v] [--pcap FILE]    (-v: the calls too; --pcap: the frames as a capture)";
 
-#[derive(Default)]
 pub struct Arguments {
-    /// Whether the calls to the driver are told too, and not only the frames and the answers.
-    pub with_calls: bool,
+    pub tells: Tells,
     /// Where the frames are to be written as a capture.
     pub pcap: Option<PathBuf>,
 }
@@ -15,10 +14,13 @@ pub struct Arguments {
 impl Arguments {
     /// None if something is not known, is there twice, or has no file.
     pub fn read(mut given: impl Iterator<Item = OsString>) -> Option<Self> {
-        let mut arguments = Arguments::default();
+        let mut arguments = Arguments {
+            tells: Tells::Story,
+            pcap: None,
+        };
         while let Some(argument) = given.next() {
             match argument.to_str()? {
-                "-v" if !arguments.with_calls => arguments.with_calls = true,
+                "-v" if arguments.tells == Tells::Story => arguments.tells = Tells::StoryAndCalls,
                 "--pcap" if arguments.pcap.is_none() => arguments.pcap = Some(given.next()?.into()),
                 _ => return None,
             }

@@ -35,6 +35,16 @@ pub enum Show {
     CallsOfAckWait(Who),
 }
 
+/// What of a world is printed.
+#[derive(Clone, Copy, PartialEq, Eq)]
+pub enum Tells {
+    Nothing,
+    /// Frames, answers and what the hosts make of them.
+    Story,
+    /// The calls that a scene shows, too.
+    StoryAndCalls,
+}
+
 pub struct World {
     now: u64,
     since: u64,
@@ -51,14 +61,11 @@ pub struct World {
     /// Every call that was made, with its station.
     pub calls: Vec<(Who, Made)>,
     pub show: Show,
-    /// Whether nothing at all is printed.
-    pub silent: bool,
-    /// Whether the calls that a scene shows are printed.
-    with_calls: bool,
+    pub tells: Tells,
 }
 
 impl World {
-    pub fn new(stations: Vec<Station>, with_calls: bool) -> Self {
+    pub fn new(stations: Vec<Station>, tells: Tells) -> Self {
         World {
             now: 0,
             since: 0,
@@ -73,8 +80,7 @@ impl World {
             charges: Vec::new(),
             calls: Vec::new(),
             show: Show::Nothing,
-            silent: false,
-            with_calls,
+            tells,
         }
     }
 
@@ -118,10 +124,9 @@ impl World {
     }
 
     pub fn say(&self, who: &str, text: &str) {
-        if self.silent {
-            return;
+        if self.tells != Tells::Nothing {
+            line!("{:>6}  {who:<9} {text}", (self.now - self.since) / MICROSECOND);
         }
-        line!("{:>6}  {who:<9} {text}", (self.now - self.since) / MICROSECOND);
     }
 
     fn station(&self, who: Who) -> usize {
@@ -182,7 +187,7 @@ impl World {
             || matches!(made.found, Some(Wait::Entering(Transition::Request(Left::ReceivingAck, _))));
         let shown = self.show == Show::AllCallsOf(who) || self.show == Show::CallsOfAckWait(who) && ack_wait;
         // None is then the call that is shown.
-        if self.with_calls && shown && made.result != Err(Error::Refused(Refusal::NotAllowed)) {
+        if self.tells == Tells::StoryAndCalls && shown && made.result != Err(Error::Refused(Refusal::NotAllowed)) {
             self.say(who.name(), &words::made(&made, self.since));
         }
         self.calls.push((who, made));

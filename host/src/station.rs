@@ -195,8 +195,12 @@ pub trait Service: Buffers {
 
 /// A radio that does what the service says. Its driver is written by whoever ports the service to it; `Station` has an example.
 ///
-/// It tells what its present task came to where it is told that it has entered the next one. So it begins the next one when the
-/// present one has ended (a frame is sent or received), after the spacing or at its time, and then tells `Entered`.
+/// What a task came to that takes time (a frame is sent or received, or none came) is told with the entry into the next one. So the
+/// next task is begun while the present one lasts; the radio enters it when that has ended, after the spacing or at its time, and then
+/// tells `Entered` with the present one's result.
+///
+/// Which buffer is the radio's when, and the fences that it owes, stand in the crate's documentation, "The pool and the radio". A frame
+/// begins as many bytes into its buffer as the settings' headroom.
 pub trait Radio {
     /// Begins a task and returns at once. Where the outcome is there at once too, it is returned. Else it comes later and is given to
     /// `Station::told`: by an interrupt handler, a main loop or an async task.

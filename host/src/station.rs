@@ -629,6 +629,10 @@ mod tests {
         }
     }
 
+    /// A station goes where its radio and its host can, as into a `static` that an interrupt handler shares.
+    const fn can_be_sent<T: Send>() {}
+    const _: () = can_be_sent::<Station<DriverService<'static, 3>, (), ()>>();
+
     #[test]
     fn each_event_is_a_call() {
         let result = TaskResult::Rx(RxResult::CrcError { time: TIME, quality: 7 });

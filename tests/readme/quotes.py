@@ -54,15 +54,21 @@ def pieces(lines):
             piece.append(line)
 
 
+def agree(piece, output, start):
+    """How many lines of the piece stand in the output from there."""
+    pairs = list(zip(piece, output[start:]))
+    return next((number for number, (line, other) in enumerate(pairs) if line != other), len(pairs))
+
+
 def stands_in(lines, output):
-    """The first line of the quote that is not found, or None. Whether the quote is found does not depend on the choice of places:
-    each piece is taken at the first place after the one before."""
+    """The line of the quote that is not found, or None. Each piece is taken at the first place after the one before, which leaves
+    the most places for those that follow."""
     place = 0
     for piece in pieces(lines):
-        starts = range(place, len(output) - len(piece) + 1)
-        start = next((each for each in starts if output[each:each + len(piece)] == piece), None)
+        starts = range(place, len(output))
+        start = next((each for each in starts if agree(piece, output, each) == len(piece)), None)
         if start is None:
-            return piece[0]
+            return piece[max((agree(piece, output, each) for each in starts), default=0)]
         place = start + len(piece)
     return None
 

@@ -4,9 +4,10 @@
 //! From the second scene to the sixth crane A's frame is lost, and an acknowledgement of crane B arrives where cell A waits for its
 //! own. A hub knows no cell: it names the one that weighed a box as the header of the received frame does. In the seventh the
 //! port's coordinator broadcasts the time, and four cells hear it. In the eighth a cell fills its waiting line. Each frame that is
-//! received has a link quality; by these the last table names the aerial that is bent. The program checks what it tells: it ends
-//! with an error if an answer, a mass, a cell, a time, a link quality, what waits in a line or what is on the air is not the
-//! expected one.
+//! received has a link quality; by these the last table names the aerial that is bent. Scenes 1 to 6 are run again with other drivers
+//! in every station: a model of the documents, which has to make the same calls, and the same with one rule loosened; what these come
+//! to is the first table. The program checks what it tells: it ends with an error if an answer, a mass, a cell, a time, a link
+//! quality, what waits in a line or what is on the air is not the expected one.
 //!
 //!     two_cranes [-v] [--pcap FILE]
 //!

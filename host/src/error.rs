@@ -140,6 +140,12 @@ impl Error {
         }
     }
 
+    /// What is wrong if the libraries have these versions: the first that is not this crate's.
+    pub(crate) fn of_versions(libraries: [u32; 2]) -> Option<Self> {
+        let other = libraries.into_iter().find(|library| *library != ffi::ABI_VERSION);
+        other.map(|library| Error::AbiVersion { library })
+    }
+
     /// Of what start or a call returned, if there is no reply to read. 14 is a number of `check_fcs` alone.
     pub(crate) const fn of_call(returned: u8) -> Self {
         match Refusal::of(returned) {
@@ -200,6 +206,15 @@ mod tests {
         assert_eq!(Refusal::of(12), Some(Refusal::LineFull));
         assert_eq!(Refusal::of(13), Some(Refusal::TokenWaits));
         assert_eq!(Refusal::of(14), Some(Refusal::FrameLength));
+    }
+
+    #[test]
+    fn both_libraries_have_the_version_of_the_crate() {
+        assert_eq!(Error::of_versions(crate::raw::abi_versions()), None);
+        assert_eq!(Error::of_versions([1, 1]), None);
+        for [driver, frame, told] in [[2, 1, 2], [1, 0, 0], [3, 2, 3]] {
+            assert_eq!(Error::of_versions([driver, frame]), Some(Error::AbiVersion { library: told }));
+        }
     }
 
     // Each case has words of its own: a sentence that can stand after "error: ", with the number of a refusal behind it.

@@ -49,6 +49,12 @@ on_slices! {
     rollback() = widosha_rollback;
 }
 
+/// The versions of the two libraries, that of the driver service first.
+pub(crate) fn abi_versions() -> [u32; 2] {
+    // SAFETY: the functions take nothing and touch no memory.
+    unsafe { [ffi::widosha_abi_version(), ffi::widosha_frame_abi_version()] }
+}
+
 pub(crate) fn preliminary_frame_info(frame: &[u8], info: &mut [u8; INFO_LENGTH]) -> u8 {
     // SAFETY: the frame's pointer comes from a shared borrow and is only read, that of the facts from an exclusive one, each of as
     // many bytes as the length beside it says; both borrows live until the function returns, and it keeps no pointer.

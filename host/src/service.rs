@@ -65,8 +65,11 @@ pub struct DriverService<'p, const N: usize> {
 
 impl<'p, const N: usize> DriverService<'p, N> {
     /// A service with these settings and an empty line, and its first action. It writes 02 10 00 into the ACK buffer's frame and no
-    /// other byte of the pool.
+    /// other byte of the pool. Refused by 3 or 4, or because a library has another version of the interface than this crate.
     pub fn start(settings: Settings, pool: &'p mut Pool<N>) -> Result<(Self, Reply), Error> {
+        if let Some(error) = Error::of_versions(raw::abi_versions()) {
+            return Err(error);
+        }
         let mut service = Self {
             settings,
             state: [0; STATE_LENGTH],

@@ -195,15 +195,20 @@ pub trait Service: Buffers {
 
 /// A radio that does what the service says. Its driver is written by whoever ports the service to it; `Station` has an example.
 ///
-/// It tells what its present task came to where it is told that it has entered the next one. So it begins the next one when the
-/// present one has ended (a frame is sent or received), after the spacing or at its time, and then tells `Entered`.
+/// What a task came to that takes time (a frame is sent or received, or none came) is told with the entry into the next one. So the
+/// next task is begun while the present one lasts; the radio enters it when that has ended, after the spacing or at its time, and then
+/// tells `Entered` with the present one's result.
+///
+/// Which buffer is the radio's when, and the fences that it owes, stand in the crate's documentation, "The pool and the radio". A frame
+/// begins as many bytes into its buffer as the settings' headroom.
 pub trait Radio {
     /// Begins a task and returns at once. Where the outcome is there at once too, it is returned. Else it comes later and is given to
     /// `Station::told`: by an interrupt handler, a main loop or an async task.
     fn begin(&mut self, task: RadioTask, buffers: &mut dyn Buffers) -> Option<RadioEvent>;
 }
 
-/// The host: it says what is to be sent and received, and takes the answers.
+/// The host: it says what is to be sent and received, and takes the answers. The radio's next task may be begun after its methods
+/// return, so they are to be short.
 pub trait Host {
     /// The next request, if there is one. This is asked as long as the line has room. What a Tx is to send is written into its buffer
     /// before; the buffer is one that is lent to no other request.
@@ -225,8 +230,9 @@ pub trait Host {
 /// A service with its radio and its host, and the loop between them.
 ///
 /// The radio tells what its task came to (`told`). The loop makes that call and gives its answers to the host, makes the host's calls
-/// that the action asks for (`HostTask`), has the host's requests arrive as long as there is room, and lets the radio begin its next
-/// task. Nothing is awaited here: every method returns when the next step is the radio's, or, while the service is idle, the host's.
+/// that the action asks for (`HostTask`), and has the radio begin its next task. As long as there is room the host's requests arrive:
+/// before the host's part of an action, else when the radio has begun. Nothing is awaited here: every method returns when the next step
+/// is the radio's or, while the service is idle, the host's.
 ///
 /// A radio and a host, each as short as it can be. What stands in for the chip is that its air acknowledges what it sends:
 ///
@@ -471,39 +477,55 @@ impl<S: Service, R: Radio, H: Host> Station<S, R, H> {
     }
 
     /// The host's turns, and the radio's task after them. A radio that has the outcome at once is asked again here, and not from
-    /// within itself.
+    /// within itself. Where the action asks the host for nothing, its new requests can wait until the radio has begun.
     fn go_on(&mut self) -> Result<(), Error> {
         loop {
             self.host_turns()?;
-            let Some(task) = RadioTask::of(self.action).filter(|_| !self.begun) else {
-                return Ok(());
+            let at_once = match RadioTask::of(self.action) {
+                Some(task) if !self.begun => {
+                    self.begun = true;
+                    self.radio.begin(task, &mut self.service)
+                }
+                _ => None,
             };
-            self.begun = true;
-            match self.radio.begin(task, &mut self.service) {
+            if HostTask::of(self.action).is_none() {
+                self.fill()?;
+            }
+            match at_once {
                 Some(event) => self.make(event.into())?,
                 None => return Ok(()),
             }
         }
     }
 
-    /// What the action asks of the host's side, until it asks for no more: three calls at most.
+    /// What the action asks of the host's side, until it asks for no more: three turns at most.
     fn host_turns(&mut self) -> Result<(), Error> {
-        loop {
+        while let Some(task) = HostTask::of(self.action) {
             self.fill()?;
-            let (call, otherwise) = match HostTask::of(self.action) {
-                Some(HostTask::WaitForRequest) if self.any_waits() => (Call::Request, None),
-                Some(HostTask::Ask(TaskDirection::Any)) => (Call::Request, Some(Call::None)),
-                Some(HostTask::Ask(TaskDirection::Outbound)) => (Call::Request, None),
-                Some(HostTask::LookForOutbound) => match self.earliest_outbound() {
-                    Some(seen) => (seen, None),
-                    None => return Ok(()),
-                },
-                _ => return Ok(()),
+            let Some(call) = self.host_call(task) else {
+                return Ok(());
             };
-            match (self.make(call), otherwise) {
-                (Err(Error::Refused(Refusal::NotAllowed)), Some(none)) => self.make(none)?,
-                (made, _) => made?,
+            match self.make(call) {
+                Err(Error::Refused(Refusal::NotAllowed)) if task == HostTask::Ask(TaskDirection::Any) => self.make(Call::None)?,
+                made => made?,
             }
+        }
+        Ok(())
+    }
+
+    /// The call that is the host's part of an action; none while nothing waits that it needs.
+    fn host_call(&self, task: HostTask) -> Option<Call> {
+        let mut waiting = self.service.waiting().into_iter().flatten();
+        match task {
+            HostTask::WaitForRequest => waiting.next().map(|_| Call::Request),
+            HostTask::Ask(_) => Some(Call::Request),
+            HostTask::LookForOutbound => waiting.find_map(|request| match request.task {
+                Task::Tx { cca, .. } => Some(Call::OutboundSeen {
+                    start: request.start,
+                    cca,
+                }),
+                Task::Rx => None,
+            }),
         }
     }
 
@@ -519,22 +541,6 @@ impl<S: Service, R: Radio, H: Host> Station<S, R, H> {
             }
         }
         Ok(())
-    }
-
-    fn any_waits(&self) -> bool {
-        self.service.waiting().iter().any(Option::is_some)
-    }
-
-    /// The call that tells of the line's earliest Tx.
-    fn earliest_outbound(&self) -> Option<Call> {
-        let waiting = self.service.waiting();
-        waiting.into_iter().flatten().find_map(|request| match request.task {
-            Task::Tx { cca, .. } => Some(Call::OutboundSeen {
-                start: request.start,
-                cca,
-            }),
-            Task::Rx => None,
-        })
     }
 }
 

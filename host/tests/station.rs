@@ -45,6 +45,9 @@ struct Common {
     number: u8,
     /// Whether the next call is an event that does not fit.
     unfit: bool,
+    /// The last action, and whether the radio has begun its part.
+    action: Option<Action>,
+    begun: bool,
     met: BTreeMap<String, u64>,
 }
 
@@ -98,6 +101,7 @@ impl Radio for TestRadio {
         self.check(task, buffers);
         self.task = Some(task);
         self.common.borrow_mut().meet("task", &task);
+        self.common.borrow_mut().begun = true;
         if self.rng.chance(1) {
             self.common.borrow_mut().meet("unfit at once:", &task);
             return Some(self.unfit());
@@ -293,6 +297,8 @@ struct TestHost {
     common: Shared,
     /// How many requests it wants to hand in.
     wants: usize,
+    /// Whether it said that it has none, and has one since.
+    late: bool,
     free: Vec<u8>,
     tokens: u32,
     /// What has arrived and is neither answered nor withdrawn.
@@ -309,7 +315,11 @@ struct TestHost {
 
 impl Host for TestHost {
     fn next_request(&mut self, buffers: &mut dyn Buffers) -> Option<Request> {
-        if self.wants == 0 || self.free.is_empty() {
+        let Common { action, begun, .. } = *self.common.borrow();
+        let of_host = action.map_or(true, |action| HostTask::of(action).is_some());
+        assert!(of_host || begun, "the radio's part of {action:?} can be begun first");
+        self.late = self.wants > 0 && self.rng.chance(5);
+        if self.wants == 0 || self.late || self.free.is_empty() {
             return None;
         }
         self.wants -= 1;
@@ -340,13 +350,20 @@ impl Host for TestHost {
             assert_eq!(*call, Call::None, "after a Request that is refused by 9");
         }
         let mut common = self.common.borrow_mut();
-        let unfit = std::mem::take(&mut common.unfit);
+        let of_radio = !matches!(
+            call,
+            Call::Arrive(_) | Call::Withdraw { .. } | Call::Request | Call::None | Call::OutboundSeen { .. }
+        );
+        let unfit = of_radio && std::mem::take(&mut common.unfit);
         match result {
             Ok(reply) => {
                 assert!(!unfit, "{call:?} does not fit");
                 common.meet("call", call);
                 common.meet("action", &reply.action);
                 common.meet("answers", &reply.answers);
+                if reply.action != Action::Nothing {
+                    (common.action, common.begun) = (Some(reply.action), false);
+                }
                 self.due.extend(reply.answers);
             }
             Err(Error::Refused(refusal)) => {
@@ -479,6 +496,7 @@ fn station(seed: u64, common: Shared) -> Tested {
         rng: Rng::new(rng.number()),
         common,
         wants: 0,
+        late: false,
         free: (2..BUFFERS as u8).collect(),
         tokens: 0,
         open: BTreeMap::new(),
@@ -498,10 +516,8 @@ fn check_rest(station: &Tested) {
     assert_eq!(service.line(), host.second.line(), "a call was not made known");
     assert!(!host.not_allowed && host.due.is_empty() && host.wrong.is_none());
     let waits = service.waiting().count();
-    assert!(
-        host.wants == 0 || host.free.is_empty() || waits == LINE_CAPACITY,
-        "a request was not asked for"
-    );
+    let has_more = host.wants > 0 && !host.late && !host.free.is_empty();
+    assert!(!has_more || waits == LINE_CAPACITY, "a request was not asked for");
     assert_eq!(host.free.len() + host.open.len(), BUFFERS - 2, "a request is lost");
     assert_eq!(
         radio.task,

@@ -8,6 +8,8 @@ pub mod crossing;
 pub mod frames;
 pub mod library;
 pub mod met;
+#[cfg(target_os = "linux")]
+pub mod pages;
 pub mod random;
 pub mod reached;
 pub mod run;

@@ -24,7 +24,7 @@ impl<const N: usize> Drop for Lent<N> {
 }
 
 /// The settings as the safe types have them. None if they have none such: of a checksum length or a flag that stands for nothing.
-fn settings(raw: &RawStart) -> Option<Settings> {
+pub fn settings(raw: &RawStart) -> Option<Settings> {
     Some(Settings {
         headroom: raw.headroom,
         tailroom: raw.tailroom,

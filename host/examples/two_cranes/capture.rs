@@ -8,12 +8,12 @@ use std::path::Path;
 const LINK_TYPE: u32 = 195;
 const SNAP_LENGTH: u32 = 262_144;
 
-/// Writes every frame of these airs, each with the time at which it begins to leave the antenna, as the story has it: scene 1
-/// begins at second 1, scene 2 at second 2. Gives how many there are. The simulated frames have no checksum (it is the radios'
-/// affair); here each gets its own, from the proved library. Where frames overlap, each stands there as it was sent.
+/// Writes every frame of these airs, which are in the order of their scenes, and gives how many there are. Each has the time at
+/// which it begins to leave the antenna, as the story has it: scene 1 begins at second 1, scene 2 at second 2. The simulated frames
+/// have no checksum (it is the radios' affair); here each gets its own, from the proved library. Where frames overlap, each stands
+/// there as it was sent.
 pub fn write(path: &Path, airs: &[&Air]) -> io::Result<usize> {
-    let mut frames: Vec<_> = airs.iter().flat_map(|air| &air.frames).collect();
-    frames.sort_by_key(|frame| frame.begin);
+    let frames: Vec<_> = airs.iter().flat_map(|air| &air.frames).collect();
     let mut file = Vec::new();
     let version: [u16; 2] = [2, 4];
     file.extend(0xA1B2_C3D4_u32.to_le_bytes());

@@ -17,9 +17,8 @@ enum { ACK_BUFFER = 0, SPARE_BUFFER = 1, WEIGHING_BUFFER = 2, BUFFERS = 3 };
 static struct widosha_host host;
 static uint8_t pool[BUFFERS][WIDOSHA_BUFFER_LENGTH];
 
-/* What the radio is at: the result that it will tell of its task, when that ends, and the buffer that it receives into. */
+/* What the radio is at: when its task ends or has ended, and the buffer that it receives into. */
 static struct {
-    uint8_t result;
     uint64_t ends;
     uint8_t buffer;
 } radio;
@@ -33,7 +32,6 @@ static void put_frame(uint8_t buffer, const uint8_t *frame, size_t length)
     size_t at;
     for (at = 0; at < length; at++)
         to[at] = frame[at];
-    WIDOSHA_FENCE();
 }
 
 static const char *outcome_name(enum widosha_answer_code outcome)
@@ -101,19 +99,25 @@ static uint8_t told(const char *call, uint8_t refusal)
     return 0;
 }
 
+/* Has the radio begin a task. */
+static void begin(uint64_t ends)
+{
+    /* What is in the pool has to be there before the radio reads it; then a driver writes the register that it begins by. */
+    WIDOSHA_FENCE();
+    radio.ends = ends;
+}
+
 /* The radio enters the task of the action that stands, and tells what the previous one came to. */
 static uint8_t enter(void)
 {
     uint64_t ended = radio.ends;
     switch (widosha_host_action(&host)) {
     case WIDOSHA_ACTION_TX: /* it was off */
-        radio.result = WIDOSHA_RESULT_SENT;
-        radio.ends = ended + AIR_TIME(widosha_host_length(&host) + 2);
+        begin(ended + AIR_TIME(widosha_host_length(&host) + 2));
         return told("entered, was off", widosha_host_entered(&host, WIDOSHA_RESULT_OFF, 0, 0, ended, 0));
     case WIDOSHA_ACTION_RX: /* it has sent, and an ACK of 5 bytes with checksum begins after the spacing */
-        radio.result = WIDOSHA_RESULT_FRAME;
         radio.buffer = widosha_host_buffer(&host);
-        radio.ends = ended + ACK_SPACING + AIR_TIME(5);
+        begin(ended + ACK_SPACING + AIR_TIME(5));
         return told("entered, frame is sent", widosha_host_entered(&host, WIDOSHA_RESULT_SENT, 0, ended, ended + ACK_SPACING, 0));
     default: /* it has received the ACK, and is off */
         put_frame(radio.buffer, on_the_air, 3);

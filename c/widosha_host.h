@@ -15,20 +15,20 @@
  *   spare one; then an answer returns another buffer than was handed in, so what counts is the number in the answer.
  * - A request's buffer is not the host's from widosha_host_arrive on, until the request is withdrawn or its answer returns a
  *   buffer. A frame to send is written before that. All other buffers are the host's, to read and to write.
- * - The radio writes into the buffer that the last Rx action named, until it has told what became of it (entered, fallback), and
- *   reads the one that a Tx action named.
+ * - The radio writes into the buffer that an Rx action named, until the service is told what came of it (entered, fallback, or
+ *   stopped with an ended window); after a rollback it writes on. It reads the one that a Tx action named, until that is told as
+ *   sent, or as not begun.
  * A radio's DMA may be at work while a call runs, although the pool is passed whole. As the code stands, a call reads of frames:
- * request, three bytes of the one that leaves the line; header, as many as it is told have arrived; entered and fallback, three
- * bytes of a frame that ends the wait for an ACK. It writes into the ACK buffer alone: start three bytes, header one. (What is
- * proved of a call takes it that nobody else writes into its slices meanwhile.)
+ * request, the first three bytes of the one that leaves the line; header, those told as arrived; entered and fallback, the first
+ * three of a frame where an ACK was awaited. It writes into the ACK buffer's frame alone: start three bytes, header one. No
+ * contract says that (what is proved takes a call's slices to be its own), but host/tests/dma.rs tests it.
  *
- * The fence. The host learns from a register or a flag that bytes are in the pool, and the call reads them as plain memory.
- * Without a fence between, compiler or core may read them before they were there. So the wrappers of header, entered and
- * fallback begin with WIDOSHA_FENCE(). The other way round, those of start and header end with one, since they write what the
- * radio sends; behind the last write into a frame of its own, and before the radio may send it, the host puts one itself.
- * As defined here the fence holds back the compiler alone. Where the core may reorder, define WIDOSHA_FENCE() before this header
- * as what the core has for it, as __DMB(). A data cache over the pool has to be cleaned and invalidated too, which no fence
- * does. */
+ * The fence. The radio tells by a register that bytes are in the pool, and a call reads them as plain memory. Without a fence between
+ * the two, compiler or core may read them before they were there. So the wrappers of header, entered and fallback begin with
+ * WIDOSHA_FENCE(). The host puts one itself before it writes the register by which the radio begins a Tx or an Rx: what the host and
+ * the calls have written is then there before the radio reads it, and what they have read before the radio writes over it.
+ * As defined here the fence holds back the compiler alone. Where the core may reorder, define WIDOSHA_FENCE() before this header as
+ * what the core has for it, as __DMB(). A data cache over the pool has to be cleaned and invalidated too, which no fence does. */
 #ifndef WIDOSHA_HOST_H
 #define WIDOSHA_HOST_H
 
@@ -175,7 +175,6 @@ static inline uint8_t widosha_host_start(
         host->pool = bytes;
         host->count = count;
     }
-    WIDOSHA_FENCE();
     return widosha_host_called(host, refusal);
 }
 
@@ -221,11 +220,8 @@ static inline uint8_t widosha_host_stopped(
 
 static inline uint8_t widosha_host_header(struct widosha_host *host, uint16_t arrived, uint16_t length)
 {
-    uint8_t refusal;
     WIDOSHA_FENCE();
-    refusal = widosha_header(arrived, length, WIDOSHA_HOST_SLICES(host));
-    WIDOSHA_FENCE();
-    return widosha_host_called(host, refusal);
+    return widosha_host_called(host, widosha_header(arrived, length, WIDOSHA_HOST_SLICES(host)));
 }
 
 static inline uint8_t widosha_host_entered(

@@ -91,7 +91,8 @@ s/widosha_none(WIDOSHA/widosha_request(WIDOSHA/
 s/(host)->count \* WIDOSHA_BUFFER_LENGTH/(host)->count * 128/
 s/    WIDOSHA_FENCE();//
 /^static inline uint8_t widosha_host_fallback/,/^}/s/WIDOSHA_FENCE();//
-/refusal = widosha_header/,/^}/s/WIDOSHA_FENCE();//
+/^static inline uint8_t widosha_host_header/,/^}/s/WIDOSHA_FENCE();//
+/^static inline uint8_t widosha_host_entered/,/^}/s/WIDOSHA_FENCE();//
 s/if (refusal != 0) {/if (refusal > 5) {/
 s/reply\[0\] != WIDOSHA_ACTION_NOTHING/reply[0] <= WIDOSHA_ACTION_OFF/
 s/if (refusal == 0) {/if (refusal <= 9) {/
@@ -109,5 +110,5 @@ s/buffer < host->count/buffer <= host->count/
 s/host->state\[1\]/host->state[2]/
 s/127 - host->state\[3\]/127 - host->state[2]/
 CHANGES
-[ "$found" -ge 26 ] || failed "$found changes tried"
+[ "$found" -ge 27 ] || failed "$found changes tried"
 echo "each of $found changes of c/widosha_host.h is found"

@@ -110,19 +110,19 @@ static uint8_t make(int which)
 static const struct {
     const char *function;
     uint64_t numbers[9];
-    int fences_before, fences_after;
+    int fences;
 } CALLS[11] = {
-    {"arrive", {0xa1b2c3d4, 0xe5, 0xf6, UINT64_C(0xf1e2d3c4b5a69788), 0xab, 0xbcde, 0xcf}, 0, 0},
-    {"withdraw", {0xa1b2c3d4}, 0, 0},
-    {"request", {0}, 0, 0},
-    {"none", {0}, 0, 0},
-    {"frame_start", {0}, 0, 0},
-    {"outbound_seen", {0xe5, UINT64_C(0xf1e2d3c4b5a69788), 0xf6}, 0, 0},
-    {"stopped", {0xe5, 0xbcde, UINT64_C(0xf1e2d3c4b5a69788), 0xf6}, 0, 0},
-    {"header", {0xbcde, 0xcdef}, 1, 1},
-    {"entered", {0xe5, 0xbcde, UINT64_C(0xf1e2d3c4b5a69788), UINT64_C(0xfedcba9876543210), 0xf6}, 1, 0},
-    {"fallback", {0xe5, 0xbcde, UINT64_C(0xf1e2d3c4b5a69788), 0xf6, UINT64_C(0xfedcba9876543210), 0xab}, 1, 0},
-    {"rollback", {0}, 0, 0},
+    {"arrive", {0xa1b2c3d4, 0xe5, 0xf6, UINT64_C(0xf1e2d3c4b5a69788), 0xab, 0xbcde, 0xcf}, 0},
+    {"withdraw", {0xa1b2c3d4}, 0},
+    {"request", {0}, 0},
+    {"none", {0}, 0},
+    {"frame_start", {0}, 0},
+    {"outbound_seen", {0xe5, UINT64_C(0xf1e2d3c4b5a69788), 0xf6}, 0},
+    {"stopped", {0xe5, 0xbcde, UINT64_C(0xf1e2d3c4b5a69788), 0xf6}, 0},
+    {"header", {0xbcde, 0xcdef}, 1},
+    {"entered", {0xe5, 0xbcde, UINT64_C(0xf1e2d3c4b5a69788), UINT64_C(0xfedcba9876543210), 0xf6}, 1},
+    {"fallback", {0xe5, 0xbcde, UINT64_C(0xf1e2d3c4b5a69788), 0xf6, UINT64_C(0xfedcba9876543210), 0xab}, 1},
+    {"rollback", {0}, 0},
 };
 
 static void expect_slices(size_t buffers)
@@ -144,7 +144,7 @@ static void try_call(int which)
     EXPECT(make(which) == 0);
     EXPECT(strcmp(met.function, CALLS[which].function) == 0);
     EXPECT(memcmp(met.numbers, CALLS[which].numbers, sizeof met.numbers) == 0);
-    EXPECT(met.fences == CALLS[which].fences_before && fences == CALLS[which].fences_before + CALLS[which].fences_after);
+    EXPECT(met.fences == CALLS[which].fences && fences == CALLS[which].fences);
     expect_slices(5);
     EXPECT(memcmp(host.reply, written, sizeof written) == 0);
     EXPECT(memcmp(host.action, written, sizeof host.action) == 0);
@@ -175,7 +175,7 @@ static void try_start(void)
     written[0] = WIDOSHA_ACTION_RECEIVE_REQUEST;
     EXPECT(widosha_host_start(&host, &settings, pool, 5) == 0);
     EXPECT(strcmp(met.function, "start") == 0 && memcmp(met.numbers, numbers, sizeof numbers) == 0);
-    EXPECT(met.fences == 0 && fences == 1);
+    EXPECT(fences == 0);
     EXPECT(host.pool == &pool[0][0] && host.count == 5);
     EXPECT(widosha_host_action(&host) == WIDOSHA_ACTION_RECEIVE_REQUEST);
     expect_slices(5);

@@ -247,7 +247,7 @@ uint8_t widosha_frame_start(
     uint8_t *state, size_t state_len, uint8_t *line, size_t line_len,
     uint8_t *reply, size_t reply_len, uint8_t *pool, size_t pool_len);
 
-/* A request to send waits while the radio listens, which it may break off.
+/* While the radio listens, a request to send waits, for which the listening is to be broken off.
  *     start, time, cca  those of the line's earliest Tx
  * Reply: stop listening before that start or, if it is best effort, without a time.
  * Refused by: 5, a code stands for nothing, the radio does not listen, or they are not those of the line's earliest Tx. */

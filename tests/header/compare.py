@@ -253,7 +253,8 @@ def declarations(text, pattern, name_group, parameters_group, result_group):
 
 def read_header(text):
     text = re.sub(r"/\*.*?\*/|//[^\n]*", blank, text, flags=re.S)
-    found = declarations(text, r"(\w+)\s+(widosha_\w+)\s*\(([^)]*)\)\s*;", 2, 3, 1)
+    # In C empty brackets leave open what a function takes.
+    found = declarations(text, r"(\w+)\s+(widosha_\w+)\s*\(([^)]*\w[^)]*)\)\s*;", 2, 3, 1)
     expect_all(found, len(re.findall(r"(?<!enum )\bwidosha_\w*", text)))
     return found
 
@@ -567,6 +568,7 @@ def mutations_of(which, text, declaration):
     if not parameters:
         none, extra = NO_PARAMETER[which]
         yield "a number", replaced(text, name.end, name.end + len(none), extra)
+        yield "nothing of numbers", replaced(text, name.end, name.end + len(none), "()" if which == "header" else "")
     result = declaration.result
     yield "result", replaced(text, result.start, result.end, other_width(result.text))
     for place, each in enumerate(parameters):

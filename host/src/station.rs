@@ -18,12 +18,13 @@ pub enum RadioTask {
     /// can follow before it has an outcome: Stop, when the host has something to send. It may be left out altogether: where something
     /// to send waits already, the task after an Rx is Stop.
     Listen,
-    /// To stop listening, or not: `Stopped`. Where a frame has started, also before this task was begun, the outcome is that it has; a
-    /// `FrameStart` that was not told yet is dropped.
+    /// To stop listening: `Stopped`. Where a frame has started, also before this task was begun, the outcome is that it has; a
+    /// `FrameStart` that was not told yet is dropped. After `Failed` the radio listens on; where a Now follows an At that failed, it
+    /// does not fit again.
     Stop(StopListening),
     /// To receive on until the header is there: `Header`, with how many of the frame's bytes stand in the listening buffer by then.
     ReadHeader,
-    /// To send: `Entered`, or `Fallback`, once the present task has ended. With `rollback` also `Rollback`.
+    /// To send: `Entered` or `Fallback`, once the present task has ended. With `rollback` it is an ACK: `Entered` or `Rollback`.
     Tx {
         /// The buffer of the frame.
         buffer: u8,
@@ -40,7 +41,7 @@ pub enum RadioTask {
     },
     /// To receive: `Entered` once the present task has ended and the radio listens.
     Rx {
-        /// The buffer for the frame, until another Rx is entered.
+        /// The buffer for the frame.
         buffer: u8,
         /// When.
         start: Timestamp,
@@ -49,7 +50,7 @@ pub enum RadioTask {
         /// As in Tx.
         rollback: bool,
     },
-    /// To go off: `Entered` once the present task has ended. With `rollback` also `Rollback`.
+    /// To go off: `Entered` once the present task has ended; with `rollback` also `Rollback`.
     Off {
         /// As in Tx.
         rollback: bool,
@@ -197,7 +198,7 @@ pub trait Service: Buffers {
 ///
 /// What a task came to that takes time (a frame is sent or received, or none came) is told with the entry into the next one. So the
 /// next task is begun while the present one lasts; the radio enters it when that has ended, after the spacing or at its time, and then
-/// tells `Entered` with the present one's result.
+/// tells `Entered` with the present one's result. Which outcomes fit which wait stands in docs/ENGINE.md of the repository.
 ///
 /// Which buffer is the radio's when, and the fences that it owes, stand in the crate's documentation, "The pool and the radio". A frame
 /// begins as many bytes into its buffer as the settings' headroom.
@@ -628,6 +629,10 @@ mod tests {
             }
         }
     }
+
+    /// A station goes where its radio and its host can, as into a `static` that an interrupt handler shares.
+    const fn can_be_sent<T: Send>() {}
+    const _: () = can_be_sent::<Station<DriverService<'static, 3>, (), ()>>();
 
     #[test]
     fn each_event_is_a_call() {

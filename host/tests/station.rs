@@ -124,8 +124,9 @@ impl TestRadio {
             RadioTask::Tx { .. } | RadioTask::Rx { .. } | RadioTask::Off { .. } => self.doing != Doing::Listening,
         };
         assert!(can, "{task:?} while it is {:?}", self.doing);
-        let common = self.common.borrow();
+        let mut common = self.common.borrow_mut();
         match task {
+            RadioTask::Stop(_) if self.task.is_some() && self.doing != Doing::Listening => common.meet("untold:", &task),
             RadioTask::Tx { buffer, length, .. } => {
                 let frame = buffers.frame(buffer).expect("the buffer is there");
                 let ack = vec![0x02, 0x10, frame[2]];
@@ -152,7 +153,7 @@ impl TestRadio {
         let task = self.task.take().expect("there is one");
         match task {
             RadioTask::Listen => {
-                self.frame_starts();
+                self.frame_starts_untold();
                 RadioEvent::FrameStart
             }
             RadioTask::Stop(_) => RadioEvent::Stopped(self.stop()),
@@ -190,6 +191,13 @@ impl TestRadio {
             ],
         };
         self.rng.pick(&events)
+    }
+
+    /// A frame may have started before that is told; if a Stop is begun meanwhile, it never is.
+    fn frame_starts_untold(&mut self) {
+        if self.doing == Doing::Listening {
+            self.frame_starts();
+        }
     }
 
     fn frame_starts(&mut self) {
@@ -556,7 +564,11 @@ fn tells_wrong(station: &mut Tested) {
     assert_eq!(before, (station.action(), station.radio().task, *station.service().state()));
 }
 
+/// At times a frame starts just before, which the radio has not told yet.
 fn host_wants(station: &mut Tested, rng: &mut Rng) {
+    if station.radio().task == Some(RadioTask::Listen) && rng.chance(30) {
+        station.radio_mut().0.frame_starts_untold();
+    }
     station.host_mut().0.wants += 1 + rng.below(4);
     seen_to(station.host_has_more());
 }
@@ -620,7 +632,7 @@ fn run(seed: u64, common: Shared) {
 }
 
 /// All that the runs can meet.
-const EVERY: [(&str, &[&str]); 7] = [
+const EVERY: [(&str, &[&str]); 8] = [
     (
         "action",
         &[
@@ -641,6 +653,7 @@ const EVERY: [(&str, &[&str]); 7] = [
     ("task", &TASKS),
     ("at once:", &TASKS),
     ("unfit at once:", &TASKS),
+    ("untold:", &["Stop(Now)", "Stop(Before"]),
     (
         "call",
         &[

@@ -1,7 +1,8 @@
 """Where the instructions of accepted calls go: reading, the service, writing.
 
     split.py parts PROGRAM TRACES      the parts of the calls; TRACES is what `bench_calls --trace` printed of PROGRAM, by instruction
-    split.py narrow PROGRAM TRACES     of each call how many instructions a processor of 32 bits would need at most, by a rule of thumb
+    split.py narrow PROGRAM TRACES     of each call how many instructions a processor of 32 bits may need, by a rule of thumb, and in what
+                                       time at 64 MHz: from one cycle for each of x86-64's to 1.5 for each of these
 
 Of each call there are four ways through the machine code: the call itself, and the same call on slices of which one byte is spoilt, which is
 refused by 1. As long as two ways are the same, nothing has told them apart. So
@@ -16,7 +17,7 @@ The boundaries are exact; an instruction that the compiler moved across one coun
 instructions only move data (mov and its like, push, pop), and how many are the C library's (memcpy).
 
 The rule of thumb: an instruction on 128 bits counts 4, one on 64 bits 2, others 1; one that works on memory, and does not only move
-between it and a register, 1 more; one of the C library 4. It is an estimate from above: much that x86-64 keeps in 64 bits has 32 or fewer.
+between it and a register, 1 more; one of the C library 4. Much that x86-64 keeps in 64 bits has 32 or fewer, so it is rather too high.
 """
 import re
 import subprocess
@@ -34,7 +35,7 @@ PARTS = (
     ("reply written, both stored", "writing"),
     ("line written, return", "writing"),
 )
-OUTSIDE = "outside"
+MEGAHERTZ = 64
 STATE_WRITTEN, FINISH, CALL = "state_bytes::encode", "slices::finish", "exported::call"
 
 
@@ -164,16 +165,19 @@ def parts(program, traces):
 
 
 def estimates(program, traces):
-    code, calls = instructions(program), read(traces)
-    print("%-34s %12s %20s" % ("call", "instructions", "on 32 bits, at most"))
-    made = defaultdict(list)
-    for name, ways in calls:
+    code, made = instructions(program), defaultdict(list)
+    for name, ways in read(traces):
         whole = ways["whole"]
         made[name].append((len(whole), sum(4 if at == "-" else narrow(*code[at]) for at in whole)))
+    print("%-34s %12s %11s %22s" % ("call, mean of its calls", "instructions", "on 32 bits", "microseconds, from to"))
     for name, counts in made.items():
-        print("%-34s %12.1f %20.1f" % ("widosha_" + name, *(sum(each) / len(counts) for each in zip(*counts))))
-    before, after = (sum(each) for each in zip(*(pair for counts in made.values() for pair in counts)))
-    print("%-34s %12.1f %20.1f, %.2f times" % ("mean", before / len(calls), after / len(calls), after / before))
+        estimate(name, counts)
+    estimate("all", [each for counts in made.values() for each in counts])
+
+
+def estimate(name, counts):
+    before, after = (sum(each) / len(counts) for each in zip(*counts))
+    print("%-34s %12.1f %11.1f %11.1f %10.1f" % (name, before, after, before / MEGAHERTZ, 1.5 * after / MEGAHERTZ))
 
 
 if __name__ == "__main__":

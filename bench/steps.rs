@@ -120,7 +120,10 @@ pub fn trace<R>(entry: usize, call: impl FnOnce() -> R) -> (R, Trace) {
     unsafe { asm!("pushfq", "or qword ptr [rsp], 0x100", "popfq") };
     let returned = call();
     let noted = NOTED.load(Relaxed);
-    assert!((1..=ROOM).contains(&noted), "the call was made, and its instructions have room: {noted}");
+    assert!(
+        (1..=ROOM).contains(&noted),
+        "the call was made, and its instructions have room: {noted}"
+    );
     let addresses = ADDRESSES[..noted].iter().map(|at| at.load(Relaxed)).collect();
     // With the return address, which stands at the stack pointer at the entry.
     let stack = 8 + INSIDE.load(Relaxed) - DEEPEST.load(Relaxed);

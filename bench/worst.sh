@@ -5,6 +5,7 @@ set -euo pipefail
 cd "$(dirname "${BASH_SOURCE[0]}")/.."
 folder=${WIDOSHA_LIB_DIR:-target/staticlib}
 out=target/bench/worst
+[ "${1-}" != --check ] || out=$out-check
 for each in driver_c frame_c; do
     if ! [ -f "$folder/lib$each.a" ]; then
         echo "there is no $folder/lib$each.a; tools/staticlib.sh $each builds it"
@@ -17,6 +18,7 @@ mkdir -p "$out"
 if [ "${1-}" = --check ]; then
     exec "$out/worst" --check
 fi
+echo "counting takes some minutes" >&2
 "$out/worst" "$out/traces.txt"
 if command -v python3 >/dev/null && command -v objdump >/dev/null; then
     echo "== the same on 32 bits, by the rule of thumb of bench/split.py"

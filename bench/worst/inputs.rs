@@ -63,20 +63,47 @@ pub fn waits() -> Vec<Wait> {
     let mut waits = vec![Wait::Idle, Wait::AfterWindow(rx), Wait::Rearm(rx), Wait::Listening(rx)];
     waits.extend([Wait::StopForFrame(rx), Wait::StopForOutbound(rx), Wait::ReadingHeader(rx)]);
     for spacing in SPACINGS {
-        waits.extend([Wait::Receiving(rx, spacing), Wait::SendingAck(spacing), Wait::AckTurn(rx, spacing)]);
+        waits.extend([
+            Wait::Receiving(rx, spacing),
+            Wait::SendingAck(spacing),
+            Wait::AckTurn(rx, spacing),
+        ]);
     }
     let (number, time) = (7, TIME);
-    let sent = |length| Tx { token: 1, buffer: 2, length };
-    let awaited = |length| Awaited { tx: sent(length), number, sent: time };
-    let next_tx = Tx { token: 2, buffer: 3, length: 125 };
+    let sent = |length| Tx {
+        token: 1,
+        buffer: 2,
+        length,
+    };
+    let awaited = |length| Awaited {
+        tx: sent(length),
+        number,
+        sent: time,
+    };
+    let next_tx = Tx {
+        token: 2,
+        buffer: 3,
+        length: 125,
+    };
     // The length decides the spacing of what follows.
     waits.extend([15, 125].map(|length| Wait::Sending(sent(length))));
     waits.extend([15, 125].map(|length| Wait::ReceivingAck(awaited(length))));
     let (sent, awaited) = (sent(125), awaited(125));
     waits.extend([Wait::AfterAckWindow(sent, time), Wait::TurnToAck(sent, number)]);
     waits.extend([Wait::StopForAck(awaited), Wait::StopForAckAgain(awaited)]);
-    let left = [Left::Off, Left::Receiving(rx), Left::Sending(sent), Left::SendingAck, Left::ReceivingAck(awaited)];
-    let next = [Next::Off, Next::Tx(next_tx, None), Next::Tx(next_tx, Some(number)), Next::Rx(next_rx)];
+    let left = [
+        Left::Off,
+        Left::Receiving(rx),
+        Left::Sending(sent),
+        Left::SendingAck,
+        Left::ReceivingAck(awaited),
+    ];
+    let next = [
+        Next::Off,
+        Next::Tx(next_tx, None),
+        Next::Tx(next_tx, Some(number)),
+        Next::Rx(next_rx),
+    ];
     waits.extend(left.iter().flat_map(|left| next.map(|next| Wait::Change(*left, next))));
     waits
 }
@@ -84,7 +111,11 @@ pub fn waits() -> Vec<Wait> {
 /// The request at a place of the line, of a kind: a Tx and an Rx, best effort and at a time.
 fn waiting(place: usize, kind: char) -> Request {
     let (token, buffer) = (11 + place as u32, 4 + place as u8);
-    let start = if kind.is_lowercase() { Start::BestEffort } else { Start::At(TIME + place as u64) };
+    let start = if kind.is_lowercase() {
+        Start::BestEffort
+    } else {
+        Start::At(TIME + place as u64)
+    };
     match kind.to_ascii_lowercase() {
         't' => Request::Tx {
             token,
@@ -104,15 +135,19 @@ pub fn line(kinds: &str) -> Line {
 
 /// Lines of each length, of one kind, and those in which the request that a wait allows, or the earliest Tx, stands last.
 pub const LINES: [&str; 24] = [
-    "", "t", "T", "r", "R", "tt", "TT", "rr", "RR", "RT", "ttt", "TTT", "rrr", "RRR", "RRT", "tttt", "TTTT", "rrrr", "RRRR", "RRRT", "RRRt",
-    "RRRr", "TTTr", "rrrT",
+    "", "t", "T", "r", "R", "tt", "TT", "rr", "RR", "RT", "ttt", "TTT", "rrr", "RRR", "RRT", "tttt", "TTTT", "rrrr", "RRRR",
+    "RRRT", "RRRt", "RRRr", "TTTr", "rrrT",
 ];
 
 /// How a line is written in `LINES`.
 pub fn kinds(line: &Line) -> String {
     let kind = |request: &Request| {
         let kind = if request.transmits() { 't' } else { 'r' };
-        if request.start() == Start::BestEffort { kind } else { kind.to_ascii_uppercase() }
+        if request.start() == Start::BestEffort {
+            kind
+        } else {
+            kind.to_ascii_uppercase()
+        }
     };
     line.0.iter().map(kind).collect()
 }
@@ -127,7 +162,11 @@ fn arrivals(line: &Line) -> Vec<Raw> {
         all.extend([1, 2, 11, 14].map(|token| Raw::arrive(token, 0, start, TIME, FREE, 125, 0)));
     }
     all.extend([0, 1, 2, 3, 4, 7, 32].map(|buffer| Raw::arrive(99, 1, 0, 0, buffer, 0, 0)));
-    all.extend([Raw::arrive(99, 2, 0, 0, FREE, 3, 0), Raw::arrive(99, 0, 2, 0, FREE, 3, 0), Raw::arrive(99, 0, 0, 0, FREE, 3, 2)]);
+    all.extend([
+        Raw::arrive(99, 2, 0, 0, FREE, 3, 0),
+        Raw::arrive(99, 0, 2, 0, FREE, 3, 0),
+        Raw::arrive(99, 0, 0, 0, FREE, 3, 2),
+    ]);
     all.extend(line.0.iter().map(|request| Raw::withdraw(request.token())));
     all.push(Raw::withdraw(99));
     all
@@ -135,7 +174,11 @@ fn arrivals(line: &Line) -> Vec<Raw> {
 
 /// OutboundSeen of the line's earliest Tx, and of none.
 fn seen(line: &Line) -> Vec<Raw> {
-    let mut all = vec![Raw::outbound_seen(0, 0, 0), Raw::outbound_seen(1, TIME, 0), Raw::outbound_seen(2, 0, 0)];
+    let mut all = vec![
+        Raw::outbound_seen(0, 0, 0),
+        Raw::outbound_seen(1, TIME, 0),
+        Raw::outbound_seen(2, 0, 0),
+    ];
     if let Some(Request::Tx { start, check, .. }) = line.earliest_tx() {
         let (code, time) = match *start {
             Start::BestEffort => (0, 0),
@@ -170,7 +213,11 @@ pub fn calls(line: &Line) -> Vec<Raw> {
 }
 
 /// Whom the frames of `headers` are for: our address, another, everyone.
-const DESTINATIONS: [[u8; 8]; 3] = [[0x02, 0x01, 0x00, 0x00, 0x00, 0x48, 0xde, 0xac], [0x02, 0x01, 9, 9, 9, 9, 9, 9], [0xff; 8]];
+const DESTINATIONS: [[u8; 8]; 3] = [
+    [0x02, 0x01, 0x00, 0x00, 0x00, 0x48, 0xde, 0xac],
+    [0x02, 0x01, 9, 9, 9, 9, 9, 9],
+    [0xff; 8],
+];
 
 /// Frames of every control that decides something, for us, for another and for everyone.
 pub fn frames() -> Vec<Vec<u8>> {

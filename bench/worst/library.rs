@@ -90,7 +90,10 @@ impl Memory {
         let slices = self.slices();
         // SAFETY: four variables that do not overlap, each with its length.
         let returned = make(&mut || unsafe { call(raw, slices) });
-        assert!(returned == expected && *self == model, "{raw:?}: the model returns {expected}, the library {returned}");
+        assert!(
+            returned == expected && *self == model,
+            "{raw:?}: the model returns {expected}, the library {returned}"
+        );
         returned
     }
 
@@ -100,7 +103,10 @@ impl Memory {
         let slices = self.slices();
         // SAFETY: as above.
         let returned = make(&mut || unsafe { start(raw, slices) });
-        assert!(returned == expected && *self == model, "{raw:?}: the model returns {expected}, the library {returned}");
+        assert!(
+            returned == expected && *self == model,
+            "{raw:?}: the model returns {expected}, the library {returned}"
+        );
         returned
     }
 }
@@ -198,8 +204,17 @@ impl Random {
             Raw::Header { length, .. } => Raw::header(number, length),
             Raw::Stopped { outcome, quality, .. } => Raw::stopped(outcome, number, time, quality),
             Raw::Entered { result, quality, .. } => Raw::entered(result, number, time, time, quality),
-            Raw::Fallback { result, cause, quality, .. } => Raw::fallback(result, number, time, cause, time, quality),
-            Raw::Arrive { token, direction, start, buffer, cca, .. } => Raw::arrive(token, direction, start, time, buffer, number, cca),
+            Raw::Fallback {
+                result, cause, quality, ..
+            } => Raw::fallback(result, number, time, cause, time, quality),
+            Raw::Arrive {
+                token,
+                direction,
+                start,
+                buffer,
+                cca,
+                ..
+            } => Raw::arrive(token, direction, start, time, buffer, number, cca),
             other => other,
         }
     }

@@ -36,10 +36,18 @@ struct Greatest {
 /// Of one function.
 #[derive(Default)]
 struct Met {
-    counted: [usize; 2],
-    /// Of accepted calls, and of refused ones.
-    greatest: [Greatest; 2],
+    accepted: usize,
+    refused: usize,
+    /// Of accepted calls with 0 to 4 requests in the line; those of start, and of functions on frames, are the first.
+    greatest: [Greatest; 5],
+    greatest_refused: Greatest,
     stack: usize,
+}
+
+impl Met {
+    fn greatest(&self) -> &Greatest {
+        self.greatest.iter().max_by_key(|each| each.steps).expect("there are five")
+    }
 }
 
 #[derive(Default)]
@@ -56,11 +64,15 @@ impl Search {
         self.sparse.is_none_or(|each| self.made % each == 0)
     }
 
-    fn take(&mut self, function: &'static str, refused: bool, trace: &steps::Trace) -> Option<&mut Greatest> {
+    /// Takes note of a call, refused (None) or accepted with so many waiting. What is greater than all before it has yet to be described.
+    fn take(&mut self, function: &'static str, waiting: Option<usize>, trace: &steps::Trace) -> Option<&mut Greatest> {
         let met = self.met.entry(function).or_default();
-        met.counted[usize::from(refused)] += 1;
         met.stack = met.stack.max(trace.stack);
-        let greatest = &mut met.greatest[usize::from(refused)];
+        let (counted, greatest) = match waiting {
+            Some(waiting) => (&mut met.accepted, &mut met.greatest[waiting]),
+            None => (&mut met.refused, &mut met.greatest_refused),
+        };
+        *counted += 1;
         if trace.len() <= greatest.steps {
             return None;
         }
@@ -79,7 +91,8 @@ impl Search {
             trace = made;
             returned
         });
-        if let Some(greatest) = self.take(NAMES[1 + raw.kind()], returned != 0, &trace) {
+        let waiting = memory.read().filter(|_| returned == 0).map(|(_, line)| line.0.len());
+        if let Some(greatest) = self.take(NAMES[1 + raw.kind()], waiting, &trace) {
             greatest.what = describe(memory, raw, returned);
             greatest.memory = Some((memory.clone(), *raw));
         }
@@ -88,7 +101,11 @@ impl Search {
 }
 
 fn describe(memory: &Memory, raw: &Raw, returned: u8) -> String {
-    let refused = if returned == 0 { String::new() } else { format!("refused by {returned}: ") };
+    let refused = if returned == 0 {
+        String::new()
+    } else {
+        format!("refused by {returned}: ")
+    };
     let Some((state, line)) = memory.read() else {
         return format!("{refused}{raw:?}");
     };
@@ -101,7 +118,14 @@ fn describe(memory: &Memory, raw: &Raw, returned: u8) -> String {
 }
 
 fn start_calls(search: &mut Search) {
-    let memory = Memory::new(&State { settings: settings(), wait: Wait::Idle }, &line("tttt"), &[0; 3]);
+    let memory = Memory::new(
+        &State {
+            settings: settings(),
+            wait: Wait::Idle,
+        },
+        &line("tttt"),
+        &[0; 3],
+    );
     for raw in starts() {
         let mut trace = steps::Trace::default();
         search.made += 1;
@@ -110,8 +134,12 @@ fn start_calls(search: &mut Search) {
             trace = made;
             returned
         });
-        if let Some(greatest) = search.take(NAMES[0], returned != 0, &trace) {
-            greatest.what = if returned == 0 { format!("{raw:?}") } else { format!("refused by {returned}: {raw:?}") };
+        if let Some(greatest) = search.take(NAMES[0], (returned == 0).then_some(0), &trace) {
+            greatest.what = if returned == 0 {
+                format!("{raw:?}")
+            } else {
+                format!("refused by {returned}: {raw:?}")
+            };
         }
     }
 }
@@ -123,7 +151,14 @@ fn every_call(search: &mut Search) {
             let line = line(kinds);
             for (place, raw) in inputs::calls(&line).into_iter().enumerate() {
                 let frame = FRAMES[place % FRAMES.len()];
-                let memory = Memory::new(&State { settings: settings(), wait }, &line, &frame);
+                let memory = Memory::new(
+                    &State {
+                        settings: settings(),
+                        wait,
+                    },
+                    &line,
+                    &frame,
+                );
                 let refused = memory.clone().of_model(&raw) != 0;
                 if !refused || matches!(kinds, "" | "tttt" | "RRRt") {
                     search.call(&memory, &raw);
@@ -138,7 +173,14 @@ fn every_call(search: &mut Search) {
 fn every_frame(search: &mut Search, wait: Wait, line: &model::line::Line) {
     let left = matches!(wait, Wait::Change(model::engine::Left::ReceivingAck(_), _));
     for frame in FRAMES {
-        let memory = Memory::new(&State { settings: settings(), wait }, line, &frame);
+        let memory = Memory::new(
+            &State {
+                settings: settings(),
+                wait,
+            },
+            line,
+            &frame,
+        );
         if memory.clone().of_model(&Raw::Request) == 0 {
             search.call(&memory, &Raw::Request);
         }
@@ -151,8 +193,14 @@ fn every_frame(search: &mut Search, wait: Wait, line: &model::line::Line) {
 
 /// Headers, by frame; the frames that take longest then with every line.
 fn headers(search: &mut Search) {
-    let reading = waits().into_iter().find(|wait| matches!(wait, Wait::ReadingHeader(_))).expect("it is there");
-    let state = State { settings: settings(), wait: reading };
+    let reading = waits()
+        .into_iter()
+        .find(|wait| matches!(wait, Wait::ReadingHeader(_)))
+        .expect("it is there");
+    let state = State {
+        settings: settings(),
+        wait: reading,
+    };
     let mut longest = vec![];
     for frame in frames() {
         let whole = Control(u16::from_le_bytes([frame[0], frame[1]])).header_length() as u16;
@@ -175,7 +223,7 @@ fn climb(search: &mut Search) {
     let mut random = library::Random(1);
     for function in &NAMES[1..] {
         for _ in 0..300 {
-            let Some((memory, raw)) = search.met.get(function).and_then(|met| met.greatest[0].memory.clone()) else {
+            let Some((memory, raw)) = search.met.get(function).and_then(|met| met.greatest().memory.clone()) else {
                 break;
             };
             let (memory, raw) = random.changed(memory, raw);
@@ -206,7 +254,9 @@ fn of_frames(search: &mut Search) {
         let (bytes, what) = (&whole[..length], format!("{length} bytes"));
         // SAFETY: a slice that is only read.
         let fcs = || u8::from(unsafe { ffi::widosha_fcs(bytes.as_ptr(), length) } > u16::MAX - 1);
-        frame_call(search, "fcs", ffi::widosha_fcs as *const () as usize, what.clone(), || fcs() & 0);
+        frame_call(search, "fcs", ffi::widosha_fcs as *const () as usize, what.clone(), || {
+            fcs() & 0
+        });
         let check = || unsafe { ffi::widosha_check_fcs(bytes.as_ptr(), length) };
         frame_call(search, "check_fcs", ffi::widosha_check_fcs as *const () as usize, what, check);
     }
@@ -219,37 +269,59 @@ fn frame_call(search: &mut Search, name: &'static str, function: usize, what: St
     }
     let (returned, trace) = steps::trace(function, call);
     let refused = matches!(returned, 1..=254);
-    if let Some(greatest) = search.take(name, refused, &trace) {
+    if let Some(greatest) = search.take(name, (!refused).then_some(0), &trace) {
         greatest.what = what;
     }
 }
 
 fn print(search: &Search) {
-    println!("{} calls made, each as the model says", search.made);
-    let (calls, most, outside) = ("calls", "at most", "in libc");
-    println!("{:<32} {calls:>8} {most:>8} {outside:>8} {:>12} {:>8} {:>8} {:>8}", "function", "refused", most, outside, "stack");
+    println!(
+        "{} calls made, each as the model says; the greatest number of instructions",
+        search.made
+    );
+    println!("of the accepted calls with 0 to 4 requests in the line, and of the refused ones; bytes of stack");
+    let head = ["accepted", "0", "1", "2", "3", "4", "refused", "at most", "stack"];
+    println!("{:<32}{}", "function", head.map(|word| format!("{word:>9}")).concat());
     for (name, met) in &search.met {
-        let ([accepted, refused], counted, stack) = (&met.greatest, met.counted, met.stack);
-        let (steps, outside) = (accepted.steps, accepted.outside);
-        let name = format!("widosha_{name}");
-        print!("{name:<32} {:>8} {steps:>8} {outside:>8}", counted[0]);
-        println!(" {:>12} {:>8} {:>8} {stack:>8}", counted[1], refused.steps, refused.outside);
+        let [a, b, c, d, e] = [0, 1, 2, 3, 4].map(|waiting| met.greatest[waiting].steps);
+        let row = [
+            met.accepted,
+            a,
+            b,
+            c,
+            d,
+            e,
+            met.refused,
+            met.greatest_refused.steps,
+            met.stack,
+        ];
+        println!("widosha_{name:<24}{}", row.map(|number| format!("{number:>9}")).concat());
     }
     for (name, met) in &search.met {
-        for greatest in met.greatest.iter().filter(|greatest| greatest.steps > 0) {
-            println!("widosha_{name} {}: {}", greatest.steps, greatest.what);
+        for greatest in [met.greatest(), &met.greatest_refused] {
+            let Greatest {
+                steps, outside, what, ..
+            } = greatest;
+            if *steps > 0 {
+                println!("widosha_{name} {steps}, {outside} of them in the C library: {what}");
+            }
         }
     }
 }
 
-/// The greatest accepted calls, and the greatest refused ones.
+/// The greatest accepted calls with an empty line, with any, and the greatest refused ones, instruction by instruction.
 fn traces(search: &Search) -> String {
     let mut text = String::new();
-    for (place, refused) in ["", "_refused"].into_iter().enumerate() {
+    let picks: [(&str, fn(&Met) -> &Greatest); 3] = [
+        ("empty", |met| &met.greatest[0]),
+        ("any", Met::greatest),
+        ("refused", |met| &met.greatest_refused),
+    ];
+    for (what, pick) in picks {
         for (name, met) in &search.met {
-            let greatest = &met.greatest[place];
+            let greatest = pick(met);
             if greatest.steps > 0 {
-                text += &format!("{name}{refused} whole {}\n", greatest.words);
+                text += &format!("{what}:{name} whole {}\n", greatest.words);
             }
         }
     }

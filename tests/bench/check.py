@@ -23,10 +23,10 @@ def stack():
     met = {}
     for line in read("worst.txt").splitlines()[2:]:
         words = line.split()
-        if len(words) == 8 and words[1].isdigit():
-            met[words[0]] = int(words[7])
+        if len(words) == 10 and all(word.isdigit() for word in words[1:]):
+            met[words[0]] = int(words[9])
     require(len(bound) >= 15, "bounds of %d functions, not of 15 or more" % len(bound))
-    require(len(met) >= 12, "calls of %d functions were counted" % len(met))
+    require(len(met) >= 12, "only calls of %d functions were counted" % len(met))
     for name, most in met.items():
         require(0 < most <= bound[name], "%s took %d bytes of stack, the bound is %d" % (name, most, bound[name]))
     return max(met.values())
@@ -41,7 +41,7 @@ def parts():
     require(abs(said["all"] - mean) < 0.06, "the parts have a mean of %.1f instructions, the traces %.1f" % (said["all"], mean))
     three = said["reading"] + said["service"] + said["writing"]
     require(abs(three - mean) < 0.2, "reading, service and writing add up to %.1f, not %.1f" % (three, mean))
-    found = re.search(r"^mean +([\d.]+) +([\d.]+)", read("narrow.txt"), re.MULTILINE)
+    found = re.search(r"^all +([\d.]+) +([\d.]+)", read("narrow.txt"), re.MULTILINE)
     require(abs(float(found.group(1)) - mean) < 0.06, "the estimate begins with %s" % found.group(1))
     require(mean < float(found.group(2)) < 4 * mean, "by the rule of thumb a call has %s" % found.group(2))
     return len(whole), mean

@@ -2,7 +2,7 @@
 //! notes which comes next. Exact, and the same whatever else runs; Linux on x86-64 only. What the call uses of the C library is counted
 //! with it.
 
-use std::arch::asm;
+use std::arch::{asm, global_asm};
 use std::sync::atomic::{AtomicUsize, Ordering::Relaxed};
 
 /// No call of the library comes near it; one that does ends the program.
@@ -25,7 +25,19 @@ struct Action {
     restorer: usize,
 }
 
+// One instruction, three times two, and the return.
+global_asm!(
+    ".globl steps_of_eight",
+    "steps_of_eight:",
+    "mov eax, 3",
+    "2:",
+    "dec eax",
+    "jnz 2b",
+    "ret"
+);
+
 unsafe extern "C" {
+    fn steps_of_eight();
     fn sigaction(signal: i32, new: *const Action, old: *mut Action) -> i32;
     static __executable_start: u8;
     static etext: u8;
@@ -98,7 +110,7 @@ fn note(at: usize) {
     }
 }
 
-/// Sets up the handler; once, before the first `trace`.
+/// Sets up the handler, once, before the first `trace`; and counts what is known.
 pub fn begin() {
     let action = Action {
         handler: trapped,
@@ -109,6 +121,13 @@ pub fn begin() {
     // SAFETY: the handler touches nothing but its own numbers and the registers that it is handed.
     let set = unsafe { sigaction(SIGTRAP, &action, std::ptr::null_mut()) };
     assert_eq!(set, 0, "the handler is set");
+    // SAFETY: it changes a register that a call may change.
+    let ((), known) = trace(steps_of_eight as *const () as usize, || unsafe { steps_of_eight() });
+    assert_eq!(
+        (known.len(), known.stack),
+        (8, 8),
+        "eight instructions and a return address are counted"
+    );
 }
 
 /// Makes a call of the function at `entry`, in one thread at a time, and gives what it returned and what it executed.

@@ -4,7 +4,7 @@
 # of those that are counted goes deeper than the bound of bench/stack.py; and a program that names every function holds all of the libraries.
 set -euo pipefail
 cd "$(dirname "${BASH_SOURCE[0]}")/.."
-for each in cargo "${RUSTC:-rustc}" python3 gcc objdump nm; do
+for each in cargo "${RUSTC:-rustc}" python3 gcc objdump nm size; do
     if ! command -v "$each" >/dev/null; then
         echo "there is no $each"
         exit 77
@@ -29,4 +29,5 @@ bench=target/host/release/examples/bench_calls
 python3 -B bench/split.py parts "$bench" "$out/traces.txt" >"$out/parts.txt"
 python3 -B bench/split.py narrow "$bench" "$out/traces.txt" >"$out/narrow.txt"
 python3 -B bench/sizes.py "$folder" >"$out/sizes.txt"
+size "$folder/libdriver_c.a" "$folder/libframe_c.a" >"$out/size.txt"
 exec python3 -B tests/bench/check.py "$out"

@@ -8,11 +8,14 @@ use std::process::ExitCode;
 
 const LIBRARIES: [&str; 2] = ["driver_c", "frame_c"];
 
+/// Systems of x86-64 whose linkers take no ELF objects.
+const NO_ELF: [&str; 2] = ["windows", "macos"];
+
 /// What keeps the libraries from being linked.
-fn obstacle(architecture: &str, folder: &Path) -> Option<String> {
-    if architecture != "x86_64" {
+fn obstacle(architecture: &str, system: &str, folder: &Path) -> Option<String> {
+    if architecture != "x86_64" || NO_ELF.contains(&system) {
         return Some(format!(
-            "the proved libraries are code for x86-64 alone, and this build is for {architecture} (host/README.md, \"Supported targets\")"
+            "the proved libraries are for x86-64 Linux, and this build is for {architecture} {system} (host/README.md, \"Supported targets\")"
         ));
     }
     let archives = LIBRARIES.map(|library| folder.join(format!("lib{library}.a")));
@@ -26,6 +29,7 @@ fn obstacle(architecture: &str, folder: &Path) -> Option<String> {
 fn main() -> ExitCode {
     let manifest = PathBuf::from(env::var_os("CARGO_MANIFEST_DIR").expect("cargo sets CARGO_MANIFEST_DIR"));
     let architecture = env::var("CARGO_CFG_TARGET_ARCH").expect("cargo sets CARGO_CFG_TARGET_ARCH");
+    let system = env::var("CARGO_CFG_TARGET_OS").expect("cargo sets CARGO_CFG_TARGET_OS");
     let folder = match env::var_os("WIDOSHA_LIB_DIR") {
         Some(named) => PathBuf::from(named),
         None => manifest.with_file_name("target").join("staticlib"),
@@ -35,7 +39,7 @@ fn main() -> ExitCode {
     for library in LIBRARIES {
         println!("cargo:rerun-if-changed={}", folder.join(format!("lib{library}.a")).display());
     }
-    if let Some(obstacle) = obstacle(&architecture, &folder) {
+    if let Some(obstacle) = obstacle(&architecture, &system, &folder) {
         eprintln!("widosha cannot be built: {obstacle}");
         return ExitCode::FAILURE;
     }

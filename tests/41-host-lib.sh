@@ -20,7 +20,7 @@ host test --lib
 host test --doc
 RUSTDOCFLAGS="-D warnings" host doc --no-deps
 
-# Where the target is another processor, or a library is not built yet, the build says so, in one sentence, and ends.
+# Where the target is another one, or a library is not built yet, the build says so, in one sentence, and ends.
 cannot_be_built() {
     local why=$1 said
     shift
@@ -40,7 +40,9 @@ mkdir -p "$none" "$one"
 touch "$one/libdriver_c.a"
 WIDOSHA_LIB_DIR=$none cannot_be_built "there is no $none/libdriver_c.a yet"
 WIDOSHA_LIB_DIR=$one cannot_be_built "there is no $one/libframe_c.a yet"
-cannot_be_built "the proved libraries are code for x86-64 alone, and this build is for arm " --target thumbv7em-none-eabihf
+other="the proved libraries are for x86-64 Linux, and this build is for"
+cannot_be_built "$other arm none" --target thumbv7em-none-eabihf
+cannot_be_built "$other x86_64 windows" --target x86_64-pc-windows-msvc
 echo "the build says where it cannot be"
 
 out=$CARGO_TARGET_DIR/checks
@@ -58,7 +60,7 @@ compile -C link-arg=-Wl,--allow-multiple-definition host/checks/other_version.rs
 
 if command -v nm >/dev/null; then
     compile --crate-type staticlib -C lto=fat -C codegen-units=1 host/checks/no_panic.rs --extern widosha="$out/libwidosha.rlib"
-    for each in start step bytes waiting facts pool time begin looped checksum capture; do
+    for each in start step bytes waiting facts pool time words begin looped checksum capture; do
         if ! nm "$out/libno_panic.a" 2>/dev/null | grep -q " T $each\$"; then
             echo "the check for panics has no function $each"
             exit 1

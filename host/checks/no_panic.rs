@@ -188,6 +188,24 @@ pub extern "C" fn looped(station: &mut Looped, event: &RadioEvent, request: &Req
     station.service().state()[0] ^ u8::from(known)
 }
 
+/// A writer that counts what is written.
+struct Count(usize);
+
+impl core::fmt::Write for Count {
+    fn write_str(&mut self, text: &str) -> core::fmt::Result {
+        self.0 = self.0.wrapping_add(text.len());
+        Ok(())
+    }
+}
+
+/// The sentences of the errors, a time, and what logs have of a service and of its pool.
+#[no_mangle]
+pub extern "C" fn words(error: &Error, service: &DriverService<4>, nanoseconds: u64) -> usize {
+    let (mut count, time) = (Count(0), LocalClockInstant::from_nanos(nanoseconds));
+    let written = core::fmt::write(&mut count, format_args!("{error} {time} {service:?} {:?}", service.pool()));
+    count.0.wrapping_add(usize::from(written.is_ok()))
+}
+
 #[no_mangle]
 pub extern "C" fn checksum(frame: &&[u8], fcs: &mut [u8; 2]) -> u8 {
     *fcs = widosha::fcs(frame);

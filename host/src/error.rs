@@ -81,24 +81,25 @@ impl Refusal {
         })
     }
 
+    /// What holds, in the words of the table of refusals in docs/LAYOUTS.md.
     const fn sentence(self) -> &'static str {
         match self {
-            Refusal::State => "the bytes of the state or the line are not such as start and accepted calls leave",
-            Refusal::Count => "a pool has 3 to 32 buffers of 144 bytes, and this one has not",
-            Refusal::Rooms => "headroom or tailroom is above 8 bytes",
-            Refusal::OwnBuffers => "the ACK buffer and the spare buffer are the same one, or one of them is not in the pool",
-            Refusal::Unfit => "the call does not fit what the service waits for, or what waits in the line",
-            Refusal::TokenHeld => "a request that has left the line and is not answered yet has this token",
-            Refusal::BufferHeld => "the buffer is not in the pool, or is held by the service or by another request",
-            Refusal::TxLength => "a frame to be sent has at least 3 bytes, and with its checksum at most 127",
-            Refusal::NotAllowed => "no request waits in the line whose direction and start are allowed now",
-            Refusal::ReceivedLength => "a received frame has at least 1 byte, and with its checksum at most 127",
-            Refusal::EntryTooLate => "10 microseconds after the time of entry the clock of 64 bits is past its end",
-            Refusal::LineFull => "four requests wait in the line, and it has no room for a fifth",
-            Refusal::TokenWaits => {
-                "the request that arrives has the token of one that waits, or the one to be withdrawn does not wait or is next to be sent"
+            Refusal::State => "a slice has the wrong length, or its bytes are no state, or no line that fits the state",
+            Refusal::Count => "the count of buffers is not 3 to 32, or the pool is not 144 bytes for each of them",
+            Refusal::Rooms => {
+                "headroom or tailroom is over 8, the checksum length is neither 2 nor 4, or implicit_broadcast is over 1"
             }
-            Refusal::FrameLength => "a frame whose checksum is checked has with it at least 3 and at most 127 bytes",
+            Refusal::OwnBuffers => "the two own buffers are equal, or one of them is not below the count",
+            Refusal::Unfit => "the call or its outcome does not fit the wait, or a code stands for nothing",
+            Refusal::TokenHeld => "an unanswered request that has left the line has the token",
+            Refusal::BufferHeld => "the buffer is not below the count, or it is held",
+            Refusal::TxLength => "the length of the frame to send is under 3, or over 127 less the checksum length",
+            Refusal::NotAllowed => "no request waits whose direction and start the wait allows",
+            Refusal::ReceivedLength => "a received length is 0, or it or the arrived bytes are over 127 less the checksum length",
+            Refusal::EntryTooLate => "the entry that begins a wait for an acknowledgement plus 10,000 exceeds 64 bits",
+            Refusal::LineFull => "four requests wait",
+            Refusal::TokenWaits => "a request with the token waits; one to withdraw does not wait, or its stop or ask is open",
+            Refusal::FrameLength => "a frame with its checksum has under 3 or over 127 bytes",
         }
     }
 }
@@ -187,7 +188,9 @@ impl core::error::Error for Error {}
 mod tests {
     use super::*;
     use std::collections::BTreeSet;
+    use std::format;
     use std::string::{String, ToString};
+    use std::vec::Vec;
 
     #[test]
     fn every_refusal_number_comes_back() {
@@ -229,18 +232,32 @@ mod tests {
         let sentences: BTreeSet<String> = refusals.chain(others.map(|error| error.to_string())).collect();
         assert_eq!(sentences.len(), 17);
         for sentence in &sentences {
-            assert!(sentence.split(' ').count() >= 7, "{sentence}");
+            assert!(sentence.split(' ').count() >= 5, "{sentence}");
             assert!(
                 !sentence.ends_with('.') && !sentence.contains("  ") && !sentence.contains('\n'),
                 "{sentence}"
             );
         }
         for refusal in (1..=14).filter_map(Refusal::of) {
-            let sentence = Error::from(refusal).to_string();
-            assert!(sentence.ends_with(&std::format!(" (refusal {})", refusal.number())));
-            assert_eq!(sentence, refusal.to_string());
+            assert_eq!(Error::from(refusal).to_string(), refusal.to_string());
         }
         let version = "the library has version 2 of the interface, and this crate is made for version 1";
         assert!(sentences.contains(version));
+    }
+
+    // docs/LAYOUTS.md has a row for each: its number, the sentence, and who refuses so.
+    #[test]
+    fn the_sentences_are_those_of_the_layouts() {
+        let table = include_str!("../../docs/LAYOUTS.md");
+        let mut rows = 0;
+        for line in table.lines().filter(|line| line.contains("| `WIDOSHA_REFUSAL_")) {
+            let cells: Vec<&str> = line.split('|').map(str::trim).collect();
+            let number: u8 = cells[1].parse().expect("a number");
+            let (first, rest) = cells[2].trim_end_matches('.').split_at(1);
+            let expected = format!("{}{rest} (refusal {number})", first.to_lowercase());
+            assert_eq!(Refusal::of(number).map(|refusal| refusal.to_string()), Some(expected));
+            rows += 1;
+        }
+        assert_eq!(rows, 14);
     }
 }

@@ -146,34 +146,34 @@ pub const ADDRESS_SHORT: u8 = 2;
 /// Mode of an address: extended, eight bytes.
 pub const ADDRESS_EXTENDED: u8 = 3;
 
-// The refusals.
-/// Refusal: a slice has the wrong length, or the bytes are no state or no line that fits it.
+// The refusals, each with its sentence.
+/// A slice has the wrong length, or its bytes are no state, or no line that fits the state.
 pub const REFUSAL_STATE: u8 = 1;
-/// Refusal: the count is not 3 to 32, or the pool is not 144 bytes for each buffer.
+/// The count of buffers is not 3 to 32, or the pool is not 144 bytes for each of them.
 pub const REFUSAL_COUNT: u8 = 2;
-/// Refusal: headroom, tailroom or checksum length is out of range, or `implicit_broadcast` is above 1.
+/// Headroom or tailroom is over 8, the checksum length is neither 2 nor 4, or implicit_broadcast is over 1.
 pub const REFUSAL_ROOMS: u8 = 3;
-/// Refusal: the two own buffers are equal, or one is not below the count.
+/// The two own buffers are equal, or one of them is not below the count.
 pub const REFUSAL_OWN_BUFFERS: u8 = 4;
-/// Refusal: the call or its outcome does not fit the wait, or a code stands for nothing.
+/// The call or its outcome does not fit the wait, or a code stands for nothing.
 pub const REFUSAL_UNFIT: u8 = 5;
-/// Refusal: an unanswered request that has left the line has the token.
+/// An unanswered request that has left the line has the token.
 pub const REFUSAL_TOKEN_HELD: u8 = 6;
-/// Refusal: the buffer is not below the count, or is held.
+/// The buffer is not below the count, or it is held.
 pub const REFUSAL_BUFFER_HELD: u8 = 7;
-/// Refusal: the length of a frame to send is under 3 or over 127 less the checksum length.
+/// The length of the frame to send is under 3, or over 127 less the checksum length.
 pub const REFUSAL_TX_LENGTH: u8 = 8;
-/// Refusal: no request waits whose direction and start the wait allows.
+/// No request waits whose direction and start the wait allows.
 pub const REFUSAL_NOT_ALLOWED: u8 = 9;
-/// Refusal: a received length is 0, or it or the arrived bytes are over 127 less the checksum length.
+/// A received length is 0, or it or the arrived bytes are over 127 less the checksum length.
 pub const REFUSAL_RECEIVED_LENGTH: u8 = 10;
-/// Refusal: the entry into an ACK's wait is so late that 10,000 ns after it exceed 64 bits.
+/// The entry that begins a wait for an acknowledgement plus 10,000 exceeds 64 bits.
 pub const REFUSAL_ENTRY_TOO_LATE: u8 = 11;
-/// Refusal: four requests wait.
+/// Four requests wait.
 pub const REFUSAL_LINE_FULL: u8 = 12;
-/// Refusal: the token waits already; of a withdrawal, it does not wait or its stop or ask is open.
+/// A request with the token waits; one to withdraw does not wait, or its stop or ask is open.
 pub const REFUSAL_TOKEN_WAITS: u8 = 13;
-/// Refusal: a frame with its checksum has under 3 or over 127 bytes.
+/// A frame with its checksum has under 3 or over 127 bytes.
 pub const REFUSAL_FRAME_LENGTH: u8 = 14;
 
 unsafe extern "C" {

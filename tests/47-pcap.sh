@@ -20,12 +20,14 @@ fail() {
     failed=1
 }
 
-# The first run may build, and says so.
+# From another folder, and as a first run, which builds and says so; the later ones have nothing to build.
+rm -f target/run.sum
 cd "$out" || exit 1
 if ! "$run" --pcap frames.pcap >story 2>told; then
     cat told
     exit 1
 fi
+grep -qE '^proving crate [0-9]+ of [0-9]+: driver_c$' told || fail "a first run does not say what it proves: $(cat told)"
 python3 -B "$reader" frames.pcap story || fail "the capture is not what the story prints"
 "$run" -v --pcap with-calls.pcap >calls 2>told || fail "with -v: $(cat told)"
 cmp frames.pcap with-calls.pcap || fail "with -v the capture differs"

@@ -64,7 +64,7 @@ while tell; do
     [ "$status" -eq 0 ] || break
     if [[ $line =~ $begun ]] && begins "${BASH_REMATCH[2]}"; then
         waits=
-        [[ $line != *": another copy "* ]] || waits=" (another copy of the repository is at it; its work is taken over)"
+        [[ $line != *": another copy "* ]] || waits=" (waits for another copy)"
     fi
     line=
 done

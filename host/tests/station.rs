@@ -8,10 +8,14 @@ mod model;
 
 use common::random::Rng;
 use common::{divisor, rounds, seed};
-use std::cell::RefCell;
+use std::cell::{Cell, RefCell};
 use std::collections::{BTreeMap, VecDeque};
 use std::fmt::Debug;
+use std::future::{poll_fn, Future};
+use std::pin::pin;
 use std::rc::Rc;
+use std::sync::Arc;
+use std::task::{Context, Poll, Wake, Waker};
 use widosha::*;
 
 /// How many runs, each of so many steps.
@@ -43,6 +47,8 @@ struct Common {
     received: Vec<u8>,
     /// Number of the last frame that was sent.
     number: u8,
+    /// How many requests the host wants to hand in.
+    wants: usize,
     /// Whether the next call is an event that does not fit.
     unfit: bool,
     /// The last action, and whether the radio has begun its part.
@@ -86,8 +92,9 @@ struct TestRadio {
     task: Option<RadioTask>,
     /// Whether the last stop failed; it does not fail twice.
     failed: bool,
-    /// In so many of a hundred cases it has the outcome at once.
+    /// In so many of a hundred cases it has the outcome at once, and one that does not fit.
     at_once: usize,
+    unfit_at_once: usize,
     now: u64,
 }
 
@@ -102,7 +109,7 @@ impl Radio for TestRadio {
         self.task = Some(task);
         self.common.borrow_mut().meet("task", &task);
         self.common.borrow_mut().begun = true;
-        if self.rng.chance(1) {
+        if self.rng.chance(self.unfit_at_once) {
             self.common.borrow_mut().meet("unfit at once:", &task);
             return Some(self.unfit());
         }
@@ -303,8 +310,6 @@ impl TestRadio {
 struct TestHost {
     rng: Rng,
     common: Shared,
-    /// How many requests it wants to hand in.
-    wants: usize,
     /// Whether it said that it has none, and has one since.
     late: bool,
     free: Vec<u8>,
@@ -326,11 +331,12 @@ impl Host for TestHost {
         let Common { action, begun, .. } = *self.common.borrow();
         let of_host = action.map_or(true, |action| HostTask::of(action).is_some());
         assert!(of_host || begun, "the radio's part of {action:?} can be begun first");
-        self.late = self.wants > 0 && self.rng.chance(5);
-        if self.wants == 0 || self.late || self.free.is_empty() {
+        let wants = self.common.borrow().wants;
+        self.late = wants > 0 && self.rng.chance(5);
+        if wants == 0 || self.late || self.free.is_empty() {
             return None;
         }
-        self.wants -= 1;
+        self.common.borrow_mut().wants -= 1;
         Some(self.request(buffers))
     }
 
@@ -488,8 +494,9 @@ fn service() -> (DriverService<'static, BUFFERS>, Reply) {
     DriverService::start(SETTINGS, pool).expect("the settings are in range")
 }
 
-fn station(seed: u64, common: Shared) -> Tested {
+fn parts(seed: u64, common: Shared) -> (TestRadio, TestHost) {
     let mut rng = Rng::new(seed);
+    common.borrow_mut().wants = 0;
     let radio = TestRadio {
         rng: Rng::new(rng.number()),
         common: common.clone(),
@@ -498,12 +505,12 @@ fn station(seed: u64, common: Shared) -> Tested {
         task: None,
         failed: false,
         at_once: rng.pick(&[0, 30, 90]),
+        unfit_at_once: 1,
         now: 0,
     };
     let host = TestHost {
         rng: Rng::new(rng.number()),
         common,
-        wants: 0,
         late: false,
         free: (2..BUFFERS as u8).collect(),
         tokens: 0,
@@ -513,6 +520,11 @@ fn station(seed: u64, common: Shared) -> Tested {
         not_allowed: false,
         due: VecDeque::new(),
     };
+    (radio, host)
+}
+
+fn station(seed: u64, common: Shared) -> Tested {
+    let (radio, host) = parts(seed, common);
     let (service, first) = service();
     Station::new(service, first.action, radio, host)
 }
@@ -524,7 +536,7 @@ fn check_rest(station: &Tested) {
     assert_eq!(service.line(), host.second.line(), "a call was not made known");
     assert!(!host.not_allowed && host.due.is_empty() && host.wrong.is_none());
     let waits = service.waiting().count();
-    let has_more = host.wants > 0 && !host.late && !host.free.is_empty();
+    let has_more = host.common.borrow().wants > 0 && !host.late && !host.free.is_empty();
     assert!(!has_more || waits == LINE_CAPACITY, "a request was not asked for");
     assert_eq!(host.free.len() + host.open.len(), BUFFERS - 2, "a request is lost");
     assert_eq!(
@@ -569,7 +581,7 @@ fn host_wants(station: &mut Tested, rng: &mut Rng) {
     if station.radio().task == Some(RadioTask::Listen) && rng.chance(30) {
         station.radio_mut().0.frame_starts_untold();
     }
-    station.host_mut().0.wants += 1 + rng.below(4);
+    station.host().common.borrow_mut().wants += 1 + rng.below(4);
     seen_to(station.host_has_more());
 }
 
@@ -722,4 +734,125 @@ fn random_runs() {
     };
     let (calls, refused, answers) = (of("call "), of("refusal "), of("answer "));
     println!("station: {calls} calls accepted, {refused} refused, {answers} answers");
+}
+
+// ---- Async code
+
+type Mailbox = Rc<Cell<Option<RadioEvent>>>;
+
+/// The same radio, whose outcomes come by a mailbox with one place.
+struct Posting {
+    radio: TestRadio,
+    mailbox: Mailbox,
+}
+
+impl Radio for Posting {
+    fn begin(&mut self, task: RadioTask, buffers: &mut dyn Buffers) -> Option<RadioEvent> {
+        let untold = self.mailbox.take();
+        let dropped = untold == Some(RadioEvent::FrameStart) && matches!(task, RadioTask::Stop(_));
+        assert!(untold.is_none() || dropped, "{untold:?} was not told before {task:?}");
+        if dropped {
+            self.radio.common.borrow_mut().meet("dropped", &RadioEvent::FrameStart);
+        }
+        let at_once = self.radio.begin(task, buffers);
+        self.mailbox.set(at_once.or_else(|| Some(self.radio.outcome(buffers))));
+        None
+    }
+}
+
+enum Woken {
+    Event(RadioEvent),
+    HostHasMore,
+    Over,
+}
+
+/// As the documentation of `Station` has it, with the host's queue.
+async fn follow<W: Future<Output = Woken>>(
+    station: &mut Station<DriverService<'static, BUFFERS>, Posting, TestHost>,
+    mut woken: impl FnMut() -> W,
+) -> Result<(), Error> {
+    loop {
+        match woken().await {
+            Woken::Event(event) => station.told(event)?,
+            Woken::HostHasMore => station.host_has_more()?,
+            Woken::Over => return Ok(()),
+        }
+    }
+}
+
+struct Nobody;
+
+impl Wake for Nobody {
+    fn wake(self: Arc<Self>) {}
+}
+
+/// What `follow` is woken by: the radio's mailbox, or its host, which has so many times something new. Pending while there is neither.
+fn wake(rng: &mut Rng, left: &mut u32, mailbox: &Mailbox, common: &Shared) -> Poll<Woken> {
+    if *left > 0 && rng.chance(30) {
+        *left -= 1;
+        common.borrow_mut().wants += rng.below(3);
+        return Poll::Ready(Woken::HostHasMore);
+    }
+    match mailbox.take() {
+        Some(event) => Poll::Ready(Woken::Event(event)),
+        None if *left > 0 => Poll::Pending,
+        None if common.borrow().wants > 0 => Poll::Ready(Woken::HostHasMore),
+        None => Poll::Ready(Woken::Over),
+    }
+}
+
+fn async_run(seed: u64, common: &Shared) {
+    let mailbox = Mailbox::default();
+    let (radio, host) = parts(seed, common.clone());
+    let radio = Posting {
+        radio: TestRadio {
+            unfit_at_once: 0,
+            ..radio
+        },
+        mailbox: mailbox.clone(),
+    };
+    let (service, first) = service();
+    let mut station = Station::new(service, first.action, radio, host);
+    let next = RefCell::new((Rng::new(!seed), 200));
+    let mut times = 0..100_000;
+    let woken = || {
+        assert!(times.next().is_some(), "it does not come to its end");
+        poll_fn(|_| {
+            let (rng, left) = &mut *next.borrow_mut();
+            wake(rng, left, &mailbox, common)
+        })
+    };
+    assert_eq!(polled(follow(&mut station, woken)), Ok(()));
+    assert_eq!(station.service().wait(), Some(Wait::Asking(Asked::Idle)));
+    assert!(station.service().waiting().next().is_none() && station.host().open.is_empty());
+    assert_eq!(station.host().free.len(), BUFFERS - 2);
+}
+
+/// What the future gives, polled until it is ready.
+fn polled<T>(future: impl Future<Output = T>) -> T {
+    let (mut future, waker) = (pin!(future), Waker::from(Arc::new(Nobody)));
+    for _ in 0..100_000 {
+        if let Poll::Ready(output) = future.as_mut().poll(&mut Context::from_waker(&waker)) {
+            return output;
+        }
+    }
+    panic!("it does not come to its end");
+}
+
+// Whatever comes first is told; in the end nothing is left to tell, and every request is answered.
+#[test]
+fn async_runs() {
+    let common = Shared::default();
+    let mut seeds = Rng::new(seed(28));
+    for _ in 0..rounds(200) {
+        async_run(seeds.number(), &common);
+    }
+    let met = &common.borrow().met;
+    let of = |what: &str| met.get(what).copied().unwrap_or(0);
+    assert!(of("dropped FrameStart") >= 20 || divisor().is_some());
+    println!(
+        "station: {} requests arrived in async code, {} frames were received",
+        of("call Arrive(Request"),
+        of("answer Received(Frame")
+    );
 }

@@ -160,7 +160,7 @@ fn every_call(search: &mut Search) {
                     &frame,
                 );
                 let refused = memory.clone().of_model(&raw) != 0;
-                if !refused || matches!(kinds, "" | "tttt" | "RRRt") {
+                if !refused || matches!(kinds, "" | "tttt" | "TTTT") {
                     search.call(&memory, &raw);
                 }
             }

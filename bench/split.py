@@ -172,7 +172,8 @@ def estimates(program, traces):
     print("%-34s %12s %11s %22s" % ("call, mean of its calls", "instructions", "on 32 bits", "microseconds, from to"))
     for name, counts in made.items():
         estimate(name, counts)
-    estimate("all", [each for counts in made.values() for each in counts])
+    if len(made) < len(sum(made.values(), [])):
+        estimate("all", [each for counts in made.values() for each in counts])
 
 
 def estimate(name, counts):

@@ -45,6 +45,11 @@ struct Met {
 }
 
 impl Met {
+    fn with_fewest(&self) -> &Greatest {
+        let mut met = self.greatest.iter().filter(|each| each.steps > 0);
+        met.next().unwrap_or(&self.greatest[0])
+    }
+
     fn greatest(&self) -> &Greatest {
         self.greatest.iter().max_by_key(|each| each.steps).expect("there are five")
     }
@@ -160,7 +165,7 @@ fn every_call(search: &mut Search) {
                     &frame,
                 );
                 let refused = memory.clone().of_model(&raw) != 0;
-                if !refused || matches!(kinds, "" | "tttt" | "RRRt") {
+                if !refused || matches!(kinds, "" | "tttt" | "TTTT") {
                     search.call(&memory, &raw);
                 }
             }
@@ -309,11 +314,11 @@ fn print(search: &Search) {
     }
 }
 
-/// The greatest accepted calls with an empty line, with any, and the greatest refused ones, instruction by instruction.
+/// The greatest accepted calls with as few waiting as can be, with any, and the greatest refused ones, instruction by instruction.
 fn traces(search: &Search) -> String {
     let mut text = String::new();
     let picks: [(&str, fn(&Met) -> &Greatest); 3] = [
-        ("empty", |met| &met.greatest[0]),
+        ("fewest", Met::with_fewest),
         ("any", Met::greatest),
         ("refused", |met| &met.greatest_refused),
     ];

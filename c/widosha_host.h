@@ -117,7 +117,7 @@ static inline const char *widosha_host_refusal(uint8_t refusal)
     case WIDOSHA_REFUSAL_OWN_BUFFERS:
         return "The two own buffers are equal, or one of them is not below the count.";
     case WIDOSHA_REFUSAL_UNFIT:
-        return "The call or its outcome does not fit the wait, or a code stands for nothing.";
+        return "The call or its outcome does not fit the wait or what waits, or a code stands for nothing.";
     case WIDOSHA_REFUSAL_TOKEN_HELD:
         return "An unanswered request that has left the line has the token.";
     case WIDOSHA_REFUSAL_BUFFER_HELD:
@@ -133,7 +133,7 @@ static inline const char *widosha_host_refusal(uint8_t refusal)
     case WIDOSHA_REFUSAL_LINE_FULL:
         return "Four requests wait.";
     case WIDOSHA_REFUSAL_TOKEN_WAITS:
-        return "A request with the token waits; one to withdraw does not wait, or its stop or ask is open.";
+        return "A request with the token waits; or none does to withdraw, or OutboundSeen has named it and its stop or ask is open.";
     case WIDOSHA_REFUSAL_FRAME_LENGTH:
         return "A frame with its checksum has under 3 or over 127 bytes.";
     default:

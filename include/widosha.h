@@ -145,7 +145,7 @@ enum widosha_refusal {
     WIDOSHA_REFUSAL_ROOMS = 3,
     /* The two own buffers are equal, or one of them is not below the count. */
     WIDOSHA_REFUSAL_OWN_BUFFERS = 4,
-    /* The call or its outcome does not fit the wait, or a code stands for nothing. */
+    /* The call or its outcome does not fit the wait or what waits, or a code stands for nothing. */
     WIDOSHA_REFUSAL_UNFIT = 5,
     /* An unanswered request that has left the line has the token. */
     WIDOSHA_REFUSAL_TOKEN_HELD = 6,
@@ -161,7 +161,7 @@ enum widosha_refusal {
     WIDOSHA_REFUSAL_ENTRY_TOO_LATE = 11,
     /* Four requests wait. */
     WIDOSHA_REFUSAL_LINE_FULL = 12,
-    /* A request with the token waits; one to withdraw does not wait, or its stop or ask is open. */
+    /* A request with the token waits; or none does to withdraw, or OutboundSeen has named it and its stop or ask is open. */
     WIDOSHA_REFUSAL_TOKEN_WAITS = 13,
     /* A frame with its checksum has under 3 or over 127 bytes. */
     WIDOSHA_REFUSAL_FRAME_LENGTH = 14

@@ -90,7 +90,7 @@ impl Refusal {
                 "headroom or tailroom is over 8, the checksum length is neither 2 nor 4, or implicit_broadcast is over 1"
             }
             Refusal::OwnBuffers => "the two own buffers are equal, or one of them is not below the count",
-            Refusal::Unfit => "the call or its outcome does not fit the wait, or a code stands for nothing",
+            Refusal::Unfit => "the call or its outcome does not fit the wait or what waits, or a code stands for nothing",
             Refusal::TokenHeld => "an unanswered request that has left the line has the token",
             Refusal::BufferHeld => "the buffer is not below the count, or it is held",
             Refusal::TxLength => "the length of the frame to send is under 3, or over 127 less the checksum length",
@@ -98,7 +98,9 @@ impl Refusal {
             Refusal::ReceivedLength => "a received length is 0, or it or the arrived bytes are over 127 less the checksum length",
             Refusal::EntryTooLate => "the entry that begins a wait for an acknowledgement plus 10,000 exceeds 64 bits",
             Refusal::LineFull => "four requests wait",
-            Refusal::TokenWaits => "a request with the token waits; one to withdraw does not wait, or its stop or ask is open",
+            Refusal::TokenWaits => {
+                "a request with the token waits; or none does to withdraw, or OutboundSeen has named it and its stop or ask is open"
+            }
             Refusal::FrameLength => "a frame with its checksum has under 3 or over 127 bytes",
         }
     }

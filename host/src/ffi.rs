@@ -155,7 +155,7 @@ pub const REFUSAL_COUNT: u8 = 2;
 pub const REFUSAL_ROOMS: u8 = 3;
 /// The two own buffers are equal, or one of them is not below the count.
 pub const REFUSAL_OWN_BUFFERS: u8 = 4;
-/// The call or its outcome does not fit the wait, or a code stands for nothing.
+/// The call or its outcome does not fit the wait or what waits, or a code stands for nothing.
 pub const REFUSAL_UNFIT: u8 = 5;
 /// An unanswered request that has left the line has the token.
 pub const REFUSAL_TOKEN_HELD: u8 = 6;
@@ -171,7 +171,7 @@ pub const REFUSAL_RECEIVED_LENGTH: u8 = 10;
 pub const REFUSAL_ENTRY_TOO_LATE: u8 = 11;
 /// Four requests wait.
 pub const REFUSAL_LINE_FULL: u8 = 12;
-/// A request with the token waits; one to withdraw does not wait, or its stop or ask is open.
+/// A request with the token waits; or none does to withdraw, or OutboundSeen has named it and its stop or ask is open.
 pub const REFUSAL_TOKEN_WAITS: u8 = 13;
 /// A frame with its checksum has under 3 or over 127 bytes.
 pub const REFUSAL_FRAME_LENGTH: u8 = 14;

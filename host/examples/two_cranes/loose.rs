@@ -102,9 +102,15 @@ impl Loose {
 
     /// What is said instead of what the model says to an accepted call, which it was told in this state.
     pub fn says(&mut self, state: &State, call: &Call, pool: &[u8], said: &mut Reply) {
-        if self.ignores != Ignores::Wait {
-            return;
+        if self.ignores == Ignores::Wait {
+            self.hold_back(state, call, said);
+            self.decide(state, call, pool, said);
+            put_first(said, &mut self.due);
         }
+    }
+
+    /// The Nack of a window that has ended is not said.
+    fn hold_back(&mut self, state: &State, call: &Call, said: &mut Reply) {
         match (&state.wait, call) {
             (Wait::StopForAck(awaited) | Wait::StopForAckAgain(awaited), Call::Stopped(_)) => self.ended = Some(*awaited),
             (Wait::AfterAckWindow(..), Call::Request | Call::None) => {
@@ -113,23 +119,23 @@ impl Loose {
             }
             _ => {}
         }
-        if let Some(late) = self.late {
-            let received_in = match &state.wait {
-                Wait::Rearm(rx) | Wait::AckTurn(rx, _) | Wait::Change(Left::Receiving(rx), _) => Some(rx.buffer),
-                _ => None,
-            };
-            let frame = received_in.and_then(|buffer| frame_told(state, call, buffer, pool));
-            let came_to = match frame {
-                Some(frame) if takes(self.ignores, frame, late.number) => Some(CameTo::Sent(late.sent)),
-                Some(_) => Some(CameTo::Nack(late.sent)),
-                None if matches!(said.action, Action::Tx { .. }) => Some(CameTo::Nack(late.sent)),
-                None => None,
-            };
-            if let Some(came_to) = came_to {
-                self.due = answer(&late, came_to);
-                self.late = None;
-            }
-        }
-        put_first(said, &mut self.due);
+    }
+
+    /// The next frame that arrives decides, or that another is to be sent.
+    fn decide(&mut self, state: &State, call: &Call, pool: &[u8], said: &Reply) {
+        let Some(late) = self.late else { return };
+        let received_in = match &state.wait {
+            Wait::Rearm(rx) | Wait::AckTurn(rx, _) | Wait::Change(Left::Receiving(rx), _) => Some(rx.buffer),
+            _ => None,
+        };
+        let frame = received_in.and_then(|buffer| frame_told(state, call, buffer, pool));
+        let came_to = match frame {
+            Some(frame) if takes(self.ignores, frame, late.number) => CameTo::Sent(late.sent),
+            Some(_) => CameTo::Nack(late.sent),
+            None if matches!(said.action, Action::Tx { .. }) => CameTo::Nack(late.sent),
+            None => return,
+        };
+        self.due = answer(&late, came_to);
+        self.late = None;
     }
 }

@@ -1,8 +1,8 @@
 """The code size of the static libraries, and what of it a linked program holds.
 
-For each library: bytes of code, of constants and of data, by section. Then programs in C that name some of the exported functions are
-linked with --gc-sections, and the sections of the libraries that the linker's map keeps are added up. Unwinding tables (.eh_frame) are
-not counted; the libraries have none that they need. x86-64, and gcc, nm and objdump are needed.
+For each library: bytes of code, of constants and of data, by section. Then programs in C that name some of the exported functions
+are linked with --gc-sections, and the sections of the libraries that the linker's map keeps are added up. x86-64; gcc, nm and objdump
+are needed.
 
     sizes.py FOLDER      the folder that has libdriver_c.a and libframe_c.a
 """
@@ -15,7 +15,8 @@ import tempfile
 LIBRARIES = ("driver_c", "frame_c")
 KINDS = (("code", ".text"), ("constants", ".rodata"), ("data", ".data"), ("data", ".bss"))
 SOME = {
-    "start and the eleven calls": "start arrive withdraw request none frame_start outbound_seen stopped header entered fallback rollback",
+    "start and the eleven calls": "start arrive withdraw request none frame_start outbound_seen stopped header entered fallback "
+    "rollback",
     "start alone": "start",
     "one call alone (frame_start)": "frame_start",
     "the header reader alone": "preliminary_frame_info",
@@ -71,7 +72,8 @@ def linked(folder, names):
         functions = ["widosha_" + name for name in names.split()]
         with open(source, "w", encoding="utf-8") as file:
             file.writelines("void %s(void);\n" % name for name in functions)
-            file.write("void (*const volatile kept[])(void) = {%s};\nint main(void) { return kept[0] == 0; }\n" % ", ".join(functions))
+            file.write("void (*const volatile kept[])(void) = {%s};\n" % ", ".join(functions))
+            file.write("int main(void) { return kept[0] == 0; }\n")
         libraries = ["-l" + name for name in LIBRARIES]
         run("gcc", "-O2", source, "-o", program, "-L", folder, *libraries, "-Wl,--gc-sections", "-Wl,-Map=" + table)
         with open(table, encoding="utf-8") as file:

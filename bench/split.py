@@ -1,11 +1,11 @@
 """Where the instructions of accepted calls go: reading, the service, writing.
 
-    split.py parts PROGRAM TRACES      the parts of the calls; TRACES is what `bench_calls --trace` printed of PROGRAM, by instruction
-    split.py narrow PROGRAM TRACES     of each call how many instructions a processor of 32 bits may need, by a rule of thumb, and in what
-                                       time at 64 MHz: from one cycle for each of x86-64's to 1.5 for each of these
+    split.py parts PROGRAM TRACES      the parts of the calls; TRACES is what `bench_calls --trace` printed of PROGRAM
+    split.py narrow PROGRAM TRACES     of each call how many instructions a processor of 32 bits may need, by a rule of thumb, and
+                                       in what time at 64 MHz: from one cycle for each of x86-64's to 1.5 for each of these
 
-Of each call there are four ways through the machine code: the call itself, and the same call on slices of which one byte is spoilt, which is
-refused by 1. As long as two ways are the same, nothing has told them apart. So
+Of each call there are four ways through the machine code: the call itself, and the same call on slices of which one byte is spoilt,
+which is refused by 1. As long as two ways are the same, nothing has told them apart. So
 - up to where the count spoilt tells: the numbers packed, the slices' lengths tested, the state's fields read (decode);
 - from there to the call of `state_bytes::encode`: is it a valid state (validity);
 - from there to where the state's last byte spoilt tells: written again and compared (canonical test);
@@ -13,11 +13,12 @@ refused by 1. As long as two ways are the same, nothing has told them apart. So
 - from there to the call of `slices::finish`: the service's call itself, and the moving of what it takes and returns (service);
 - in `slices::finish`: `state_bytes::encode` once more (the state written), and the rest (the reply written, both stored);
 - after it: the line written, in the calls that change it, and the return.
-The boundaries are exact; an instruction that the compiler moved across one counts where it stands. Beside each part stands how many of its
-instructions only move data (mov and its like, push, pop), and how many are the C library's (memcpy).
+The boundaries are exact; an instruction that the compiler moved across one counts where it stands. Beside each part stands how many
+of its instructions only move data (mov and its like, push, pop), and how many are the C library's (memcpy).
 
-The rule of thumb: an instruction on 128 bits counts 4, one on 64 bits 2, others 1; one that works on memory, and does not only move
-between it and a register, 1 more; one of the C library 4. Much that x86-64 keeps in 64 bits has 32 or fewer, so it is rather too high.
+The rule of thumb: an instruction on 128 bits counts 4, one on 64 bits 2, others 1; one that works on memory, and does not only
+move between it and a register, 1 more; one of the C library 4. Much that x86-64 keeps in 64 bits has 32 or fewer, so it is rather
+too high.
 """
 import re
 import subprocess
@@ -142,8 +143,8 @@ def table(calls, code, at):
     for part, kind in PARTS:
         row(part, spent[part], whole, moves[part], outside[part], len(calls))
     for kind in ("reading", "service", "writing"):
-        of = [part for part, its in PARTS if its == kind]
-        row("= " + kind, *(sum(each[p] for p in of) if i != 1 else whole for i, each in enumerate((spent, None, moves, outside))), len(calls))
+        own, moved, libc = (sum(each[part] for part, its in PARTS if its == kind) for each in (spent, moves, outside))
+        row("= " + kind, own, whole, moved, libc, len(calls))
     row("= all", whole, whole, sum(moves.values()), sum(outside.values()), len(calls))
     return by_name
 

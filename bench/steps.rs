@@ -1,6 +1,6 @@
-//! The instructions of one call, each with its address: the processor is made to trap after every one (its trap flag), and the handler
-//! notes which comes next. Exact, and the same whatever else runs; Linux on x86-64 only. What the call uses of the C library is counted
-//! with it.
+//! The instructions of one call, each with its address: the processor is made to trap after every one (its trap flag), and the
+//! handler notes which comes next. Exact, and the same whatever else runs; Linux on x86-64 only. What the call uses of the C library
+//! is counted with it.
 
 use std::arch::{asm, global_asm};
 use std::sync::atomic::{AtomicUsize, Ordering::Relaxed};
@@ -9,7 +9,8 @@ use std::sync::atomic::{AtomicUsize, Ordering::Relaxed};
 const ROOM: usize = 1 << 16;
 const SIGTRAP: i32 = 5;
 const SA_SIGINFO: i32 = 4;
-/// Where the stack pointer, the instruction pointer and the flags stand among the registers that a handler is given, and where these begin.
+/// Where the registers begin in what a handler is given, and where the stack pointer, the instruction pointer and the flags stand among
+/// them.
 const REGISTERS: usize = 40;
 const RSP: usize = 15;
 const RIP: usize = 16;

@@ -1,7 +1,8 @@
 #!/usr/bin/env bash
-# The programs of bench/ measure what docs/BENCHMARKS.md says they do, with no word of a time: every call of the worst case's set is made,
-# and returns and writes what the model of host/tests says; the parts of a call (bench/split.py) add up to all of its instructions; no call
-# of those that are counted goes deeper than the bound of bench/stack.py; and a program that names every function holds all of the libraries.
+# The programs of bench/ measure what docs/BENCHMARKS.md says they do, with no word of a time: every call of the worst case's set is
+# made, and returns and writes what the model of host/tests says; the parts of a call (bench/split.py) add up to all of its
+# instructions; no call of those that are counted goes deeper than the bound of bench/stack.py; and a program that names every function
+# holds all of the libraries.
 set -euo pipefail
 cd "$(dirname "${BASH_SOURCE[0]}")/.."
 for each in cargo "${RUSTC:-rustc}" python3 gcc objdump nm size; do

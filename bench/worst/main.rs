@@ -1,8 +1,9 @@
-//! The worst case of each exported function: the greatest number of instructions that a call of an aimed set takes, each counted exactly.
-//! It is the greatest that was met and no bound. Every call is compared with the model of host/tests, its returned number and all slices.
+//! The worst case of each exported function: the greatest number of instructions that a call of an aimed set takes, each counted
+//! exactly. It is the greatest that was met and no bound. Every call is compared with the model of host/tests, its returned number and
+//! all slices.
 //!
-//!     worst FILE       counts them all, and prints for each function the greatest of the accepted and of the refused calls; into the file
-//!                      it writes these calls instruction by instruction, for bench/split.py
+//!     worst FILE       counts them all, and prints for each function the greatest of the accepted and of the refused calls; into the
+//!                      file it writes these calls instruction by instruction, for bench/split.py
 //!     worst --check    makes every call of the set once without counting, and counts a few
 
 #[path = "../../host/src/ffi.rs"]
@@ -69,7 +70,8 @@ impl Search {
         self.sparse.is_none_or(|each| self.made % each == 0)
     }
 
-    /// Takes note of a call, refused (None) or accepted with so many waiting. What is greater than all before it has yet to be described.
+    /// Takes note of a call, refused (None) or accepted with so many waiting. What is greater than all before it has yet to be
+    /// described.
     fn take(&mut self, function: &'static str, waiting: Option<usize>, trace: &steps::Trace) -> Option<&mut Greatest> {
         let met = self.met.entry(function).or_default();
         met.stack = met.stack.max(trace.stack);

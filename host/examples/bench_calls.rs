@@ -8,8 +8,8 @@
 //!     bench_calls --accepted N the same as --count with one start and, N times, the accepted calls of a round
 //!     bench_calls --script N   prints those in the language of the script runner of the Rust service, which has a queue of its own:
 //!                              a request is in it where it leaves our line
-//!     bench_calls --trace      makes one round, and prints the instructions of each accepted call by their addresses, beside those of the
-//!                              same call with a byte of state or line spoilt: where the ways part, that part had been read
+//!     bench_calls --trace      makes one round, and prints the instructions of each accepted call by their addresses, beside those
+//!                              of the same call with a byte of state or line spoilt: where the ways part, that part had been read
 //!     bench_calls --facts N    reads the facts of five frames N times, and once each time into a slice of a wrong length
 
 #[path = "../../bench/steps.rs"]

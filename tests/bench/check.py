@@ -52,12 +52,13 @@ def sizes():
     row = re.compile(r"^(.{32}) +(\d+) +(\d+) +(\d+)$", re.MULTILINE)
     rows = {name.strip(): tuple(map(int, rest)) for name, *rest in row.findall(read("sizes.txt"))}
     both = [rows["lib%s.a, all of it" % name] for name in ("driver_c", "frame_c")]
-    require(rows["every function"] == tuple(map(sum, zip(*both))), "every function is %s, the libraries %s" % (rows["every function"], both))
+    every = rows["every function"]
+    require(every == tuple(map(sum, zip(*both))), "every function is %s, the libraries %s" % (every, both))
     text = [int(number) for number in re.findall(r"^ *(\d+)\t", read("size.txt"), re.MULTILINE)]
     require(text == [sum(each) for each in both], "the libraries are %s, size has %s" % (both, text))
     require(all(each[2] == 0 for each in rows.values()), "a library has data that can be written")
     require(0 < rows["start alone"][0] < both[0][0], "what is not named is not dropped")
-    return rows["every function"]
+    return every
 
 
 calls, mean = parts()

@@ -133,9 +133,10 @@ impl Coverage {
         for (name, count) in CALL_NAMES.iter().zip(self.accepted) {
             assert!(count >= 1_000, "{name} was accepted only {count} times");
         }
-        // All but those on slices cut or damaged and those with a code that stands for nothing; of starts 3 and 4 can be said.
+        // All but those on slices cut or damaged, those with a code that stands for nothing, and those of runs on 11 to 31 buffers;
+        // of the refusals of start 3 and 4 can be met.
         assert!(
-            self.safe * 10 >= self.calls * 9,
+            self.safe * 100 >= self.calls * 85,
             "only {} of the calls went both ways",
             self.safe
         );

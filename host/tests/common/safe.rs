@@ -189,18 +189,17 @@ pub struct After<'a> {
 }
 
 impl Safe {
-    /// Whether the safe types can say these settings, be they refused or not.
+    /// Whether the safe types can say these settings, be they refused or not. Each number of buffers is a type of its own, which takes
+    /// its time to compile: these nine are those of 93 in 100 random runs.
     pub fn can_say(raw: &RawStart) -> bool {
-        settings(raw).is_some() && (3..=32).contains(&raw.count)
+        settings(raw).is_some() && matches!(raw.count, 3..=10 | 32)
     }
 
-    /// The same start on a pool of these bytes, which returned this number and left this reply. None if start was refused, or if the
-    /// safe types cannot say what it was given.
+    /// The same start on a pool of these bytes, which returned this number and left this reply. None if start was refused, or where
+    /// `can_say` says no.
     pub fn start(raw: &RawStart, bytes: &[u8], returned: u8, reply: &[u8]) -> Result<Option<Safe>, String> {
         let Some(settings) = settings(raw) else { return Ok(None) };
-        let started = start_of_count!(
-            raw.count, settings, bytes, 3 4 5 6 7 8 9 10 11 12 13 14 15 16 17 18 19 20 21 22 23 24 25 26 27 28 29 30 31 32
-        );
+        let started = start_of_count!(raw.count, settings, bytes, 3 4 5 6 7 8 9 10 32);
         let Some(started) = started else { return Ok(None) };
         let (safe, told) = match started {
             Ok((safe, told)) => (Some(safe), Ok(told)),

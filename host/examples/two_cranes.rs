@@ -496,7 +496,7 @@ fn loses(world: &World, rule: Rule, container: &str) -> bool {
 
 fn show_plan(world: &World, loose: &[World; 4]) {
     title("What the plan has of scenes 1 to 6, in tonnes; ! marks a box that keeps the shipper's mass");
-    line!("                         this   the same driver, loose in one place, which ignores");
+    line!("                         this   a model of it, loose in one place, which ignores");
     line!("box  shipper  weighed  driver   lowest bit  pending bit  length   wait");
     for Container(name, shipper, weighed) in CONTAINERS {
         let cell = |lost: bool| {

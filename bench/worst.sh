@@ -1,6 +1,7 @@
 #!/usr/bin/env bash
-# Counts the instructions of an aimed set of calls, each exactly, and prints for each exported function the greatest (bench/worst/main.rs).
-# Linux on x86-64 only. With --check every call of the set is made and compared with the model, and few are counted.
+# Counts the instructions of an aimed set of calls, each exactly, and prints for each exported function the greatest
+# (bench/worst/main.rs). Linux on x86-64 only. With --check every call of the set is made and compared with the model, and few are
+# counted.
 set -euo pipefail
 cd "$(dirname "${BASH_SOURCE[0]}")/.."
 folder=${WIDOSHA_LIB_DIR:-target/staticlib}

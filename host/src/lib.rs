@@ -118,13 +118,13 @@
 //! Headroom, the checksum's place behind the frame, and tailroom are the radio's with it. One buffer can be read and another be
 //! written at the same time, as where the ACK is made ready while the frame is still being received.
 //!
-//! While the radio writes a buffer, **no reference to its bytes may live or be made**: neither `frame`, `frame_mut`, `put_frame`,
-//! `buffer`, `buffer_mut` and `received` of this buffer, nor `pool`, which is a reference to all of them. While it reads one,
-//! none that can write. Such a reference would say to the compiler that nobody else writes (or reads) there. `buffer_ptr` makes
-//! none, so it is what a radio is given, nor does any call make one. A host that keeps to the actions and the answers does not
-//! come near: it touches no buffer that is held.
+//! While the radio writes a buffer, **no reference to its bytes may live or be made**: `frame`, `frame_mut`, `put_frame`,
+//! `buffer`, `buffer_mut` and `received` are not called for this buffer, and `pool`, which is a reference to all of them, is not
+//! called at all. While it reads one, none that can write is made. Such a reference would say to the compiler that nobody else
+//! writes (or reads) there. `buffer_ptr` makes none, so it is what a radio is given; nor does any call make one. A host that keeps
+//! to the actions and the answers does not come near: it touches no buffer that is held.
 //!
-//! The calls read and write these bytes of the pool and no others:
+//! The calls read at most these bytes of the pool, and write these and no others:
 //!
 //! | call | reads | writes |
 //! |---|---|---|
@@ -136,16 +136,16 @@
 //!
 //! What is proved takes the slices of a call, the pool among them, to be lent to the call alone. That a radio may write into the
 //! other bytes meanwhile rests on this table, which follows from the source, but is no part of a contract: host/tests/dma.rs
-//! tests it, on calls in every wait, with all other pages of the pool barred.
+//! tests it, on calls in every wait, with the pages before and after these bytes barred.
 //!
 //! **Fences.** What the radio wrote has to be there before it is read, and what the host or the service wrote before the radio
 //! reads it:
 //!
 //! - After the radio has told by a register that bytes have arrived or a frame is whole, and before `header`, before `entered` or
 //!   `fallback` with `RxResult::Frame`, and before the frame is read: a fence with `Ordering::Acquire`.
-//! - After `put_frame`, `arrive`, `request` and `header`, and before the register is written by which the radio begins to send or
-//!   to receive: a fence with `Ordering::Release`. It keeps what was written before the radio reads it, and what was read of a
-//!   returned buffer before the radio writes it.
+//! - After `start`, `header` and whatever the host has written into a buffer or read of it, and before the register is written by
+//!   which the radio begins to send or to receive: a fence with `Ordering::Release`. It keeps what was written before the radio
+//!   reads it, and what was read of a returned buffer before the radio writes it.
 //! - Before `stopped`, `frame_start`, `outbound_seen`, `none`, `rollback`, `arrive` and `withdraw`: none. They read no byte, and
 //!   no answer that they give has a frame.
 //!

@@ -304,7 +304,7 @@ mod linux {
             let mut run = Run::open(opening).unwrap_or_else(|wrong| panic!("{wrong}"));
             for _ in 0..200 {
                 if let Err(wrong) = step(&mut run, &mut rng, &mut pages, &mut counts) {
-                    fail(51, &run, &wrong);
+                    fail(seed(51), &run, &wrong);
                 }
             }
         }

@@ -15,11 +15,12 @@ mod model;
 #[path = "../steps.rs"]
 mod steps;
 
-use inputs::{frames, kinds, line, name, settings, starts, waits, FRAMES, LINES};
+use inputs::{frames, kinds, line, name, other_settings, settings, starts, waits, FRAMES, LINES};
 use library::{Memory, NAMES};
 use model::calls::Raw;
 use model::engine::{State, Wait};
 use model::header::Control;
+use model::settings::Settings;
 use std::collections::BTreeMap;
 
 /// The greatest that was met.
@@ -125,28 +126,25 @@ fn describe(memory: &Memory, raw: &Raw, returned: u8) -> String {
 }
 
 fn start_calls(search: &mut Search) {
-    let memory = Memory::new(
-        &State {
-            settings: settings(),
-            wait: Wait::Idle,
-        },
-        &line("tttt"),
-        &[0; 3],
-    );
     for raw in starts() {
+        let settings = Settings {
+            count: raw.count,
+            ..settings()
+        };
+        let wait = Wait::Idle;
+        let memory = Memory::new(&State { settings, wait }, &line("tttt"), &[0; 3]);
+        if !search.counts() {
+            memory.clone().start_as_model(&raw, |made| made());
+            continue;
+        }
         let mut trace = steps::Trace::default();
-        search.made += 1;
         let returned = memory.clone().start_as_model(&raw, |made| {
             let (returned, made) = steps::trace(ffi::widosha_start as *const () as usize, made);
             trace = made;
             returned
         });
         if let Some(greatest) = search.take(NAMES[0], (returned == 0).then_some(0), &trace) {
-            greatest.what = if returned == 0 {
-                format!("{raw:?}")
-            } else {
-                format!("refused by {returned}: {raw:?}")
-            };
+            greatest.what = format!("returns {returned}: {raw:?}");
         }
     }
 }
@@ -221,6 +219,25 @@ fn headers(search: &mut Search) {
     for (_, frame, raw) in &longest[..12] {
         for kinds in LINES {
             search.call(&Memory::new(&state, &line(kinds), frame), raw);
+        }
+    }
+}
+
+/// The greatest accepted calls of each function, for each number that waits, with other settings.
+fn every_setting(search: &mut Search) {
+    for function in &NAMES[1..] {
+        for waiting in 0..5 {
+            let greatest = search.met.get(function).map(|met| met.greatest[waiting].clone());
+            let Some((memory, raw)) = greatest.and_then(|greatest| greatest.memory) else {
+                continue;
+            };
+            let (state, line) = memory.read().expect("an accepted call was made on it");
+            for settings in other_settings() {
+                let memory = Memory::new(&State { settings, ..state }, &line, &memory.frame(2)[..23]);
+                if memory.clone().of_model(&raw) == 0 {
+                    search.call(&memory, &raw);
+                }
+            }
         }
     }
 }
@@ -336,10 +353,11 @@ fn traces(search: &Search) -> String {
 }
 
 type Part = fn(&mut Search);
-const PARTS: [(&str, Part); 5] = [
+const PARTS: [(&str, Part); 6] = [
     ("start", start_calls),
     ("every wait, line and call", every_call),
     ("headers", headers),
+    ("other settings", every_setting),
     ("climbing", climb),
     ("frames", of_frames),
 ];

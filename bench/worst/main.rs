@@ -1,6 +1,6 @@
 //! The worst case of each exported function: the greatest number of instructions that a call of an aimed set takes, each counted
 //! exactly. It is the greatest that was met and no bound. Every call is compared with the model of host/tests, its returned number and
-//! all slices.
+//! all slices (that of the checksum's functions with the rule bit by bit).
 //!
 //!     worst FILE       counts them all, and prints for each function the greatest of the accepted and of the refused calls; into the
 //!                      file it writes these calls instruction by instruction, for bench/split.py
@@ -264,37 +264,66 @@ fn of_frames(search: &mut Search) {
     for frame in frames() {
         whole[..frame.len()].copy_from_slice(&frame);
         for arrived in [0, 1, 2, frame.len() - 1, frame.len(), 127] {
-            let (function, call) = (ffi::widosha_preliminary_frame_info as *const () as usize, &whole[..arrived]);
-            let mut info = [0; 32];
-            // SAFETY: two slices that do not overlap.
-            let read = || unsafe { ffi::widosha_preliminary_frame_info(call.as_ptr(), arrived, info.as_mut_ptr(), 32) };
-            frame_call(search, "preliminary_frame_info", function, format!("frame {call:02x?}"), read);
-            let mut expected = [0; 32];
-            model::export::preliminary_frame_info(call, &mut expected);
-            assert_eq!(info, expected, "the model's facts of {call:02x?}");
+            facts(search, &whole[..arrived]);
         }
     }
     for length in 0..=127 {
-        let (bytes, what) = (&whole[..length], format!("{length} bytes"));
-        // SAFETY: a slice that is only read.
-        let fcs = || u8::from(unsafe { ffi::widosha_fcs(bytes.as_ptr(), length) } > u16::MAX - 1);
-        frame_call(search, "fcs", ffi::widosha_fcs as *const () as usize, what.clone(), || {
-            fcs() & 0
-        });
-        let check = || unsafe { ffi::widosha_check_fcs(bytes.as_ptr(), length) };
-        frame_call(search, "check_fcs", ffi::widosha_check_fcs as *const () as usize, what, check);
+        checksum(search, &whole[..length]);
     }
 }
 
-fn frame_call(search: &mut Search, name: &'static str, function: usize, what: String, mut call: impl FnMut() -> u8) {
+fn facts(search: &mut Search, frame: &[u8]) {
+    let function = ffi::widosha_preliminary_frame_info as *const () as usize;
+    let (mut info, mut expected) = ([0; 32], [0; 32]);
+    let returns = model::export::preliminary_frame_info(frame, &mut expected);
+    // SAFETY: two slices that do not overlap.
+    let mut read = || unsafe { ffi::widosha_preliminary_frame_info(frame.as_ptr(), frame.len(), info.as_mut_ptr(), 32) };
+    let read = || u16::from(read());
+    frame_call(search, "preliminary_frame_info", function, frame, u16::from(returns), read);
+    assert_eq!(info, expected, "the model's facts of {frame:02x?}");
+}
+
+fn checksum(search: &mut Search, bytes: &[u8]) {
+    let (fcs, check) = (ffi::widosha_fcs as *const (), ffi::widosha_check_fcs as *const ());
+    // SAFETY: a slice that is only read.
+    let work_out = || unsafe { ffi::widosha_fcs(bytes.as_ptr(), bytes.len()) };
+    let look = || u16::from(unsafe { ffi::widosha_check_fcs(bytes.as_ptr(), bytes.len()) });
+    frame_call(search, "fcs", fcs as usize, bytes, bit_rule(bytes), work_out);
+    let returns = match bytes {
+        [rest @ .., low, high] if !rest.is_empty() => match bit_rule(rest) == u16::from_le_bytes([*low, *high]) {
+            true => u16::from(ffi::FCS_YES),
+            false => u16::from(ffi::FCS_NO),
+        },
+        _ => u16::from(ffi::FCS_REFUSED),
+    };
+    frame_call(search, "check_fcs", check as usize, bytes, returns, look);
+}
+
+/// The checksum, bit by bit.
+fn bit_rule(bytes: &[u8]) -> u16 {
+    let bit = |rest: u16| if rest & 1 == 1 { rest >> 1 ^ 0x8408 } else { rest >> 1 };
+    bytes
+        .iter()
+        .fold(0, |rest, byte| (0..8).fold(rest ^ u16::from(*byte), |rest, _| bit(rest)))
+}
+
+fn frame_call(
+    search: &mut Search,
+    name: &'static str,
+    function: usize,
+    bytes: &[u8],
+    expected: u16,
+    mut call: impl FnMut() -> u16,
+) {
     if !search.counts() {
-        call();
+        assert_eq!(call(), expected, "{name} of {bytes:02x?}");
         return;
     }
     let (returned, trace) = steps::trace(function, call);
-    let refused = matches!(returned, 1..=254);
+    assert_eq!(returned, expected, "{name} of {bytes:02x?}");
+    let refused = name != "fcs" && matches!(returned, 1..=254);
     if let Some(greatest) = search.take(name, (!refused).then_some(0), &trace) {
-        greatest.what = what;
+        greatest.what = format!("{} bytes: {bytes:02x?}", bytes.len());
     }
 }
 

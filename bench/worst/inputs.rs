@@ -26,32 +26,50 @@ pub fn settings() -> Settings {
     }
 }
 
-/// A start that is accepted, and one for each of its refusals 2 to 4.
+/// Numbers of start around the limits of each, with every other.
 pub fn starts() -> Vec<RawStart> {
-    let fits = RawStart {
-        count: 32,
-        headroom: 8,
-        tailroom: 8,
-        fcs_length: 4,
-        hardware_addr: u64::from_be_bytes(HARDWARE),
-        pan_id: PAN,
-        implicit_broadcast: 1,
-        ack_buffer: 0,
-        spare_buffer: 31,
-    };
-    let with = |change: fn(&mut RawStart)| {
-        let mut raw = fits;
-        change(&mut raw);
-        raw
-    };
-    vec![
-        fits,
-        with(|raw| raw.count = 31),
-        with(|raw| raw.fcs_length = 3),
-        with(|raw| raw.implicit_broadcast = 2),
-        with(|raw| raw.spare_buffer = raw.ack_buffer),
-        with(|raw| raw.spare_buffer = raw.count),
-    ]
+    let mut all = vec![];
+    for (count, fcs_length) in [2, 3, 8, 32, 33]
+        .into_iter()
+        .flat_map(|count| [2, 3, 4].map(|fcs| (count, fcs)))
+    {
+        for (headroom, tailroom) in [0, 8, 9].into_iter().flat_map(|head| [0, 8, 9].map(|tail| (head, tail))) {
+            for (ack_buffer, spare_buffer) in [(0, 1), (1, 0), (2, 2), (0, 40)] {
+                all.extend([0, 1, 2].map(|implicit_broadcast| RawStart {
+                    count,
+                    headroom,
+                    tailroom,
+                    fcs_length,
+                    hardware_addr: u64::from_be_bytes(HARDWARE),
+                    pan_id: PAN,
+                    implicit_broadcast,
+                    ack_buffer,
+                    spare_buffer,
+                }));
+            }
+        }
+    }
+    all
+}
+
+/// The settings, with others in every place that decides nothing else.
+pub fn other_settings() -> Vec<Settings> {
+    let mut all = vec![];
+    for bits in 0..1 << 6 {
+        let is = |bit: u8| bits >> bit & 1 == 1;
+        let (ack, spare) = if is(0) { (0, 1) } else { (1, 0) };
+        all.push(Settings {
+            count: if is(1) { 32 } else { 9 },
+            headroom: if is(2) { 8 } else { 0 },
+            tailroom: if is(3) { 8 } else { 0 },
+            fcs: if is(4) { 2 } else { 4 },
+            implicit: is(5),
+            ack,
+            spare,
+            ..settings()
+        });
+    }
+    all
 }
 
 const SPACINGS: [Spacing; 3] = [Spacing::Ack, Spacing::Short, Spacing::Long];

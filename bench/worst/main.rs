@@ -1,6 +1,6 @@
 //! The worst case of each exported function: the greatest number of instructions that a call of an aimed set takes, each counted
 //! exactly. It is the greatest that was met and no bound. Every call is compared with the model of host/tests, its returned number and
-//! all slices.
+//! all slices (that of the checksum's functions with the rule bit by bit).
 //!
 //!     worst FILE       counts them all, and prints for each function the greatest of the accepted and of the refused calls; into the
 //!                      file it writes these calls instruction by instruction, for bench/split.py
@@ -15,11 +15,12 @@ mod model;
 #[path = "../steps.rs"]
 mod steps;
 
-use inputs::{frames, kinds, line, name, settings, starts, waits, FRAMES, LINES};
+use inputs::{frames, kinds, line, name, other_settings, settings, starts, waits, FRAMES, LINES};
 use library::{Memory, NAMES};
 use model::calls::Raw;
 use model::engine::{State, Wait};
 use model::header::Control;
+use model::settings::Settings;
 use std::collections::BTreeMap;
 
 /// The greatest that was met.
@@ -125,28 +126,25 @@ fn describe(memory: &Memory, raw: &Raw, returned: u8) -> String {
 }
 
 fn start_calls(search: &mut Search) {
-    let memory = Memory::new(
-        &State {
-            settings: settings(),
-            wait: Wait::Idle,
-        },
-        &line("tttt"),
-        &[0; 3],
-    );
     for raw in starts() {
+        let settings = Settings {
+            count: raw.count,
+            ..settings()
+        };
+        let wait = Wait::Idle;
+        let memory = Memory::new(&State { settings, wait }, &line("tttt"), &[0; 3]);
+        if !search.counts() {
+            memory.clone().start_as_model(&raw, |made| made());
+            continue;
+        }
         let mut trace = steps::Trace::default();
-        search.made += 1;
         let returned = memory.clone().start_as_model(&raw, |made| {
             let (returned, made) = steps::trace(ffi::widosha_start as *const () as usize, made);
             trace = made;
             returned
         });
         if let Some(greatest) = search.take(NAMES[0], (returned == 0).then_some(0), &trace) {
-            greatest.what = if returned == 0 {
-                format!("{raw:?}")
-            } else {
-                format!("refused by {returned}: {raw:?}")
-            };
+            greatest.what = format!("returns {returned}: {raw:?}");
         }
     }
 }
@@ -225,6 +223,25 @@ fn headers(search: &mut Search) {
     }
 }
 
+/// The greatest accepted calls of each function, for each number that waits, with other settings.
+fn every_setting(search: &mut Search) {
+    for function in &NAMES[1..] {
+        for waiting in 0..5 {
+            let greatest = search.met.get(function).map(|met| met.greatest[waiting].clone());
+            let Some((memory, raw)) = greatest.and_then(|greatest| greatest.memory) else {
+                continue;
+            };
+            let (state, line) = memory.read().expect("an accepted call was made on it");
+            for settings in other_settings() {
+                let memory = Memory::new(&State { settings, ..state }, &line, &memory.frame(2)[..23]);
+                if memory.clone().of_model(&raw) == 0 {
+                    search.call(&memory, &raw);
+                }
+            }
+        }
+    }
+}
+
 /// From the greatest accepted call of each function on: bytes and numbers changed at random, kept where it is accepted and takes longer.
 fn climb(search: &mut Search) {
     let mut random = library::Random(1);
@@ -247,37 +264,66 @@ fn of_frames(search: &mut Search) {
     for frame in frames() {
         whole[..frame.len()].copy_from_slice(&frame);
         for arrived in [0, 1, 2, frame.len() - 1, frame.len(), 127] {
-            let (function, call) = (ffi::widosha_preliminary_frame_info as *const () as usize, &whole[..arrived]);
-            let mut info = [0; 32];
-            // SAFETY: two slices that do not overlap.
-            let read = || unsafe { ffi::widosha_preliminary_frame_info(call.as_ptr(), arrived, info.as_mut_ptr(), 32) };
-            frame_call(search, "preliminary_frame_info", function, format!("frame {call:02x?}"), read);
-            let mut expected = [0; 32];
-            model::export::preliminary_frame_info(call, &mut expected);
-            assert_eq!(info, expected, "the model's facts of {call:02x?}");
+            facts(search, &whole[..arrived]);
         }
     }
     for length in 0..=127 {
-        let (bytes, what) = (&whole[..length], format!("{length} bytes"));
-        // SAFETY: a slice that is only read.
-        let fcs = || u8::from(unsafe { ffi::widosha_fcs(bytes.as_ptr(), length) } > u16::MAX - 1);
-        frame_call(search, "fcs", ffi::widosha_fcs as *const () as usize, what.clone(), || {
-            fcs() & 0
-        });
-        let check = || unsafe { ffi::widosha_check_fcs(bytes.as_ptr(), length) };
-        frame_call(search, "check_fcs", ffi::widosha_check_fcs as *const () as usize, what, check);
+        checksum(search, &whole[..length]);
     }
 }
 
-fn frame_call(search: &mut Search, name: &'static str, function: usize, what: String, mut call: impl FnMut() -> u8) {
+fn facts(search: &mut Search, frame: &[u8]) {
+    let function = ffi::widosha_preliminary_frame_info as *const () as usize;
+    let (mut info, mut expected) = ([0; 32], [0; 32]);
+    let returns = model::export::preliminary_frame_info(frame, &mut expected);
+    // SAFETY: two slices that do not overlap.
+    let mut read = || unsafe { ffi::widosha_preliminary_frame_info(frame.as_ptr(), frame.len(), info.as_mut_ptr(), 32) };
+    let read = || u16::from(read());
+    frame_call(search, "preliminary_frame_info", function, frame, u16::from(returns), read);
+    assert_eq!(info, expected, "the model's facts of {frame:02x?}");
+}
+
+fn checksum(search: &mut Search, bytes: &[u8]) {
+    let (fcs, check) = (ffi::widosha_fcs as *const (), ffi::widosha_check_fcs as *const ());
+    // SAFETY: a slice that is only read.
+    let work_out = || unsafe { ffi::widosha_fcs(bytes.as_ptr(), bytes.len()) };
+    let look = || u16::from(unsafe { ffi::widosha_check_fcs(bytes.as_ptr(), bytes.len()) });
+    frame_call(search, "fcs", fcs as usize, bytes, bit_rule(bytes), work_out);
+    let returns = match bytes {
+        [rest @ .., low, high] if !rest.is_empty() => match bit_rule(rest) == u16::from_le_bytes([*low, *high]) {
+            true => u16::from(ffi::FCS_YES),
+            false => u16::from(ffi::FCS_NO),
+        },
+        _ => u16::from(ffi::FCS_REFUSED),
+    };
+    frame_call(search, "check_fcs", check as usize, bytes, returns, look);
+}
+
+/// The checksum, bit by bit.
+fn bit_rule(bytes: &[u8]) -> u16 {
+    let bit = |rest: u16| if rest & 1 == 1 { rest >> 1 ^ 0x8408 } else { rest >> 1 };
+    bytes
+        .iter()
+        .fold(0, |rest, byte| (0..8).fold(rest ^ u16::from(*byte), |rest, _| bit(rest)))
+}
+
+fn frame_call(
+    search: &mut Search,
+    name: &'static str,
+    function: usize,
+    bytes: &[u8],
+    expected: u16,
+    mut call: impl FnMut() -> u16,
+) {
     if !search.counts() {
-        call();
+        assert_eq!(call(), expected, "{name} of {bytes:02x?}");
         return;
     }
     let (returned, trace) = steps::trace(function, call);
-    let refused = matches!(returned, 1..=254);
+    assert_eq!(returned, expected, "{name} of {bytes:02x?}");
+    let refused = name != "fcs" && matches!(returned, 1..=254);
     if let Some(greatest) = search.take(name, (!refused).then_some(0), &trace) {
-        greatest.what = what;
+        greatest.what = format!("{} bytes: {bytes:02x?}", bytes.len());
     }
 }
 
@@ -336,10 +382,11 @@ fn traces(search: &Search) -> String {
 }
 
 type Part = fn(&mut Search);
-const PARTS: [(&str, Part); 5] = [
+const PARTS: [(&str, Part); 6] = [
     ("start", start_calls),
     ("every wait, line and call", every_call),
     ("headers", headers),
+    ("other settings", every_setting),
     ("climbing", climb),
     ("frames", of_frames),
 ];

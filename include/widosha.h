@@ -4,7 +4,8 @@
  * slice is a pointer and its length in bytes. The four slices of start and of a call are the state, the waiting line, the reply and
  * the pool; the two of the header reader are the frame, which is only read, and the facts; the two functions of the checksum have
  * one slice, which is only read. Each pointer must be good for reading and writing as many bytes as its length says (one that is
- * only read for reading), and the slices must not overlap.
+ * only read for reading), and the slices must not overlap. Where a radio reads and writes the pool by itself, c/widosha_host.h says
+ * whose a buffer is when, which bytes a call touches, and which fences belong beside it.
  *
  * Requests reach the service by its line: widosha_arrive puts one behind those that wait, at most four, and widosha_withdraw takes
  * one out; both fit at any time, change the line alone and write a reply of 48 zero bytes. When the service waits or asks for a
@@ -94,7 +95,7 @@ enum widosha_action {
     WIDOSHA_ACTION_RECEIVE_REQUEST = 1, /* wait until a request waits, then widosha_request */
     WIDOSHA_ACTION_TRY_RECEIVE_REQUEST = 2, /* widosha_request; if it is refused by 9, widosha_none */
     WIDOSHA_ACTION_TRY_RECEIVE_OUTBOUND = 3, /* widosha_request: the Tx that widosha_outbound_seen named */
-    WIDOSHA_ACTION_LISTEN = 4, /* listen; then widosha_frame_start or widosha_outbound_seen */
+    WIDOSHA_ACTION_LISTEN = 4, /* listen; then widosha_frame_start, or widosha_outbound_seen once a Tx waits */
     WIDOSHA_ACTION_STOP_NOW = 5, /* stop listening; then widosha_stopped, as for the next two */
     WIDOSHA_ACTION_STOP_AT = 6, /* stop listening at the time, if no frame has started */
     WIDOSHA_ACTION_STOP_BEFORE = 7, /* stop listening in time for a start at the time, with the flag */
@@ -183,7 +184,7 @@ extern "C" {
 uint32_t widosha_abi_version(void);
 
 /* Begins the service: writes the first state, an empty line, and 02 10 00 into the ACK buffer's frame. It reads neither state nor
- * line.
+ * line, so a later start forgets all requests; the radio has to be off then, as it is where a request is waited for (action 1).
  *     count               buffers in the pool, 3 to 32
  *     headroom            bytes of a buffer before its frame, 0 to 8
  *     tailroom            bytes of a buffer kept behind its frame, 0 to 8
@@ -270,7 +271,8 @@ uint8_t widosha_stopped(
     uint8_t *state, size_t state_len, uint8_t *line, size_t line_len,
     uint8_t *reply, size_t reply_len, uint8_t *pool, size_t pool_len);
 
-/* The header of the frame that is being received has arrived, in the buffer that the last Rx action named.
+/* The header of the frame that is being received has arrived, in the buffer that the last Rx action named. Told earlier, of fewer bytes
+ * than its header has, a frame for this station is taken for one that is not.
  *     arrived  how many of the frame's bytes are there by now: 23 are enough for every header, and a frame that is shorter or breaks
  *              off is told with those that there are, also none
  *     length   the frame's length with checksum, as the radio has it; it decides the spacing after the frame

@@ -20,8 +20,8 @@
  * - A request's buffer is not the host's from widosha_host_arrive on, until the request is withdrawn or its answer returns a
  *   buffer. A frame to send is written before that. All other buffers are the host's, to read and to write.
  * - The radio writes into the buffer that an Rx action named, until the service is told what came of it (entered, fallback, or
- *   stopped with an ended window); after a rollback it writes on. Until it has entered that Rx, it still receives into the buffer of
- *   the Rx before. The host keeps both numbers: no later action has them. It reads the one that a Tx action named, until that is told as
+ *   stopped with an ended window); after a rollback it writes on. A radio that receives has the buffer of the Rx before until it enters
+ *   the new one, so the host keeps both numbers: no later action has them. It reads the one that a Tx action named, until that is told as
  *   sent, or as not begun.
  * A radio's DMA may be at work while a call runs, although the pool is passed whole. As the code stands, a call reads of frames:
  * request, the first three bytes of the one that leaves the line; header, those told as arrived; entered and fallback, the first

@@ -6,8 +6,12 @@
  * driver_c. c/weighing.c is an example. Zero the struct before its first start, as `static struct widosha_host host;` does.
  *
  * A wrapper returns what the function returns, 0 or the number of the refusal. After a refusal state, line, pool and the
- * action are as before, and the reply is empty. One call at a time: a host that calls from interrupts too has to hold them back
- * during a call.
+ * action are as before, and the reply is empty.
+ *
+ * One call at a time, and its answers are read before the next call: every call writes the reply anew, so after an arrival, a
+ * withdrawal or a refused call the answers of the call before are gone, and an answer that is not read is given by no later call. So a
+ * host that calls from interrupts too has to hold them back from before a call until it has read the action and all answers; and who
+ * makes calls while he reads answers, as an arrival with the buffer that the first one returned, copies both before.
  *
  * Which buffers the host must not touch. From start on the pool is lent to the service, and the radio writes into some of its
  * buffers.
@@ -16,7 +20,8 @@
  * - A request's buffer is not the host's from widosha_host_arrive on, until the request is withdrawn or its answer returns a
  *   buffer. A frame to send is written before that. All other buffers are the host's, to read and to write.
  * - The radio writes into the buffer that an Rx action named, until the service is told what came of it (entered, fallback, or
- *   stopped with an ended window); after a rollback it writes on. It reads the one that a Tx action named, until that is told as
+ *   stopped with an ended window); after a rollback it writes on. A radio that receives has the buffer of the Rx before until it enters
+ *   the new one, so the host keeps both numbers: no later action has them. It reads the one that a Tx action named, until that is told as
  *   sent, or as not begun.
  * A radio's DMA may be at work while a call runs, although the pool is passed whole. As the code stands, a call reads of frames:
  * request, the first three bytes of the one that leaves the line; header, those told as arrived; entered and fallback, the first
@@ -28,7 +33,9 @@
  * WIDOSHA_FENCE(). The host puts one itself before it writes the register by which the radio begins a Tx or an Rx: what the host and
  * the calls have written is then there before the radio reads it, and what they have read before the radio writes over it.
  * As defined here the fence holds back the compiler alone. Where the core may reorder, define WIDOSHA_FENCE() before this header as
- * what the core has for it, as __DMB(). A data cache over the pool has to be cleaned and invalidated too, which no fence does. */
+ * what the core has for it, as __DMB(). A data cache over the pool has to be cleaned and invalidated too, which no fence does; and as
+ * 144 is no multiple of 32 or 64, neighbouring buffers have cache lines in common: to invalidate those of one drops what was just
+ * written into the other, as an ACK's number. A pool in memory that is not cached has neither trouble. */
 #ifndef WIDOSHA_HOST_H
 #define WIDOSHA_HOST_H
 
@@ -162,7 +169,8 @@ static inline uint8_t widosha_host_called(struct widosha_host *host, uint8_t ref
     return refusal;
 }
 
-/* The pool is lent from an accepted start on: `uint8_t pool[3][WIDOSHA_BUFFER_LENGTH]` has three buffers. */
+/* The pool is lent from an accepted start on: `uint8_t pool[3][WIDOSHA_BUFFER_LENGTH]` has three buffers. Nothing finds a count that
+ * is more than the pool has. */
 static inline uint8_t widosha_host_start(
     struct widosha_host *host, const struct widosha_host_settings *settings, uint8_t (*pool)[WIDOSHA_BUFFER_LENGTH], uint8_t count)
 {
@@ -246,7 +254,7 @@ static inline uint8_t widosha_host_rollback(struct widosha_host *host)
 
 #undef WIDOSHA_HOST_SLICES
 
-/* ---- The action that stands; which of the numbers it has stands at widosha.h's actions and in docs/LAYOUTS.md */
+/* ---- The action that stands. A number that it does not have is 0 */
 
 /* A number of so many bytes, low byte first. */
 static inline uint64_t widosha_host_number(const uint8_t *bytes, size_t count)
@@ -262,11 +270,13 @@ static inline enum widosha_action widosha_host_action(const struct widosha_host 
     return (enum widosha_action)host->action[0];
 }
 
+/* Of Tx and Rx. */
 static inline uint8_t widosha_host_buffer(const struct widosha_host *host)
 {
     return host->action[1];
 }
 
+/* Of Tx, without checksum. */
 static inline uint8_t widosha_host_length(const struct widosha_host *host)
 {
     return host->action[2];
@@ -278,17 +288,19 @@ static inline uint8_t widosha_host_flags(const struct widosha_host *host)
     return (uint8_t)(host->action[3] & (WIDOSHA_FLAG_CCA | WIDOSHA_FLAG_ROLLBACK | WIDOSHA_FLAG_AT));
 }
 
+/* Of Tx and Rx. */
 static inline enum widosha_spacing widosha_host_spacing(const struct widosha_host *host)
 {
     return (enum widosha_spacing)(host->action[3] >> WIDOSHA_SPACING_SHIFT & 3);
 }
 
+/* Of stop at and stop before; of Tx and Rx only with WIDOSHA_FLAG_AT, as 0 is a time too. */
 static inline uint64_t widosha_host_time(const struct widosha_host *host)
 {
     return widosha_host_number(host->action + 4, 8);
 }
 
-/* ---- The answers of the last call */
+/* ---- The answers of the last call, arrivals, withdrawals and refused calls included, which have none */
 
 /* How many, 0 to 2. */
 static inline unsigned widosha_host_answers(const struct widosha_host *host)
@@ -314,7 +326,8 @@ static inline struct widosha_host_answer widosha_host_answer_at(const struct wid
 
 /* ---- The pool */
 
-/* Where the frame in a buffer begins; NULL if there is no such buffer. After an accepted start. */
+/* Where the frame in a buffer begins; NULL if there is no such buffer. After an accepted start. It is given of every buffer, whoever's
+ * it is now. */
 static inline uint8_t *widosha_host_frame(const struct widosha_host *host, uint8_t buffer)
 {
     return buffer < host->count ? host->pool + (size_t)buffer * WIDOSHA_BUFFER_LENGTH + host->state[1] : NULL;

@@ -4,7 +4,8 @@
  * slice is a pointer and its length in bytes. The four slices of start and of a call are the state, the waiting line, the reply and
  * the pool; the two of the header reader are the frame, which is only read, and the facts; the two functions of the checksum have
  * one slice, which is only read. Each pointer must be good for reading and writing as many bytes as its length says (one that is
- * only read for reading), and the slices must not overlap.
+ * only read for reading), and the slices must not overlap. Where a radio reads and writes the pool by itself, c/widosha_host.h says
+ * whose a buffer is when, which bytes a call touches, and which fences belong beside it.
  *
  * Requests reach the service by its line: widosha_arrive puts one behind those that wait, at most four, and widosha_withdraw takes
  * one out; both fit at any time, change the line alone and write a reply of 48 zero bytes. When the service waits or asks for a
@@ -17,8 +18,9 @@
  * (yes), 255 (no) or 14 (refused: the frame with its checksum has under 3 or over 127 bytes). So 0 is the one answer of a function
  * that returns uint8_t which says that all is well, and no refusal has the number 255.
  *
- * Start and each call test the slices first: they are refused by 1 for length or bytes of state, line or reply, and by 2 for a pool
- * that is not 144 bytes for each buffer. Below, "Refused by" names what comes after that, in checking order.
+ * Start and each call test the slices first: they are refused by 1 for the length of state, line or reply and (but for start, which
+ * reads neither) for the bytes of state or line, and by 2 for a pool that is not 144 bytes for each buffer. Below, "Refused by" names
+ * what comes after that, in checking order.
  *
  * Times are nanoseconds of the radio's clock. A length is that of a frame without its checksum where nothing else is said.
  *
@@ -93,19 +95,19 @@ enum widosha_action {
     WIDOSHA_ACTION_RECEIVE_REQUEST = 1, /* wait until a request waits, then widosha_request */
     WIDOSHA_ACTION_TRY_RECEIVE_REQUEST = 2, /* widosha_request; if it is refused by 9, widosha_none */
     WIDOSHA_ACTION_TRY_RECEIVE_OUTBOUND = 3, /* widosha_request: the Tx that widosha_outbound_seen named */
-    WIDOSHA_ACTION_LISTEN = 4, /* listen; then widosha_frame_start or widosha_outbound_seen */
+    WIDOSHA_ACTION_LISTEN = 4, /* listen; then widosha_frame_start, or widosha_outbound_seen once a Tx waits */
     WIDOSHA_ACTION_STOP_NOW = 5, /* stop listening; then widosha_stopped, as for the next two */
     WIDOSHA_ACTION_STOP_AT = 6, /* stop listening at the time, if no frame has started */
     WIDOSHA_ACTION_STOP_BEFORE = 7, /* stop listening in time for a start at the time, with the flag */
     WIDOSHA_ACTION_READ_HEADER = 8, /* wait for the header's bytes; then widosha_header */
-    WIDOSHA_ACTION_TX = 9, /* send the frame in the buffer; then widosha_entered, _fallback or _rollback */
-    WIDOSHA_ACTION_RX = 10, /* receive into the buffer; then widosha_entered or _rollback */
-    WIDOSHA_ACTION_OFF = 11 /* switch off; then widosha_entered or _rollback */
+    WIDOSHA_ACTION_TX = 9, /* send the frame in the buffer; then widosha_entered; or _rollback with that flag, _fallback without */
+    WIDOSHA_ACTION_RX = 10, /* receive into the buffer; then widosha_entered, as no Rx has the rollback flag */
+    WIDOSHA_ACTION_OFF = 11 /* switch off; then widosha_entered; or _rollback with that flag */
 };
 
 /* Byte 3 of the reply: three flags, and above them the spacing that goes before the task (Tx, Rx). */
 #define WIDOSHA_FLAG_CCA 1 /* check the channel (Tx); the seen request's flag (stop before a start) */
-#define WIDOSHA_FLAG_ROLLBACK 2 /* the radio may go back to its previous task (Tx, Rx, off) */
+#define WIDOSHA_FLAG_ROLLBACK 2 /* if the frame that it receives is damaged, the radio receives on (Tx of an ACK for that frame, off) */
 #define WIDOSHA_FLAG_AT 4 /* the start is the reply's time (Tx, Rx) */
 #define WIDOSHA_SPACING_SHIFT 3 /* the spacing is (byte 3 >> this) & 3 */
 enum widosha_spacing {
@@ -182,7 +184,7 @@ extern "C" {
 uint32_t widosha_abi_version(void);
 
 /* Begins the service: writes the first state, an empty line, and 02 10 00 into the ACK buffer's frame. It reads neither state nor
- * line.
+ * line, so a later start forgets all requests; the radio has to be off then, as it is where a request is waited for (action 1).
  *     count               buffers in the pool, 3 to 32
  *     headroom            bytes of a buffer before its frame, 0 to 8
  *     tailroom            bytes of a buffer kept behind its frame, 0 to 8
@@ -259,6 +261,8 @@ uint8_t widosha_outbound_seen(
 /* What stopping the listening radio came to, which one of the actions 5 to 7 asked for.
  *     outcome                WIDOSHA_OUTCOME_
  *     length, time, quality  outcome 2: of the frame; outcome 4: time and quality of the damaged one. They come into no answer.
+ * After widosha_frame_start outcome 0 alone fits; a start that proves false is told as a frame of which no byte arrives. After
+ * widosha_outbound_seen all fit, and so they do of an awaited ACK, but not outcome 1 a second time.
  * Reply: a frame started: read the header, or, of an awaited ACK, ask for a request. The window ended: ask for a request. Failed:
  * listen on, or, of an awaited ACK, stop without a time.
  * Refused by: 5, the outcome does not fit the wait or stands for nothing; 10, the length. */
@@ -267,11 +271,13 @@ uint8_t widosha_stopped(
     uint8_t *state, size_t state_len, uint8_t *line, size_t line_len,
     uint8_t *reply, size_t reply_len, uint8_t *pool, size_t pool_len);
 
-/* The header of the frame that is being received has arrived, in the buffer that the last Rx action named.
- *     arrived  how many of the frame's bytes are there by now; no header has more than 23
+/* The header of the frame that is being received has arrived, in the buffer that the last Rx action named. Told earlier, of fewer bytes
+ * than its header has, a frame for this station is taken for one that is not.
+ *     arrived  how many of the frame's bytes are there by now: 23 are enough for every header, and a frame that is shorter or breaks
+ *              off is told with those that there are, also none
  *     length   the frame's length with checksum, as the radio has it; it decides the spacing after the frame
  * Reply: for us and to be acknowledged: Tx of the ACK buffer, into which the number is written now. Else for us: ask for a request.
- * Not for us: Rx, into the spare buffer.
+ * Not for us, or too few bytes to say: Rx, into the spare buffer.
  * Refused by: 5, no header is to be read; 10, the arrived bytes. */
 uint8_t widosha_header(
     uint16_t arrived, uint16_t length,
@@ -279,9 +285,12 @@ uint8_t widosha_header(
     uint8_t *reply, size_t reply_len, uint8_t *pool, size_t pool_len);
 
 /* The radio has left its previous task and entered the one that the last action (Tx, Rx or off) named.
- *     result                 WIDOSHA_RESULT_, of the previous task
+ *     result                 WIDOSHA_RESULT_, of the previous task: 0 if it was off, 1 if it sent, else 2 to 4; but if it received
+ *                            what may be an awaited ACK, 3 does not fit
  *     length, time, quality  result 1: time; result 2: all three; result 4: time and quality
  *     entry                  when the new task began, as measured; it matters where a wait for an ACK begins
+ * A Tx with the rollback flag is the ACK of the frame that the radio receives. It is entered once that frame is there and found
+ * undamaged; else it is not sent, and widosha_rollback is the call. No refusal finds an ACK that was sent for a damaged frame.
  * Reply: what follows, and the answer of the request whose task has ended, if one is owed now.
  * Refused by: 5, the result does not fit the wait or stands for nothing; 10, the length; 11, the entry. */
 uint8_t widosha_entered(
@@ -289,18 +298,20 @@ uint8_t widosha_entered(
     uint8_t *state, size_t state_len, uint8_t *line, size_t line_len,
     uint8_t *reply, size_t reply_len, uint8_t *pool, size_t pool_len);
 
-/* The radio has left its previous task, but could not enter the Tx that the last action named, and is off.
+/* The radio has left its previous task, but could not enter the Tx of a request that the last action named, and is off. For other tasks
+ * there is no such call; the ACK of a received frame, if it cannot be sent, is given up with the frame by widosha_rollback.
  *     result, length, time, quality  as above
  *     cause, cause_time              WIDOSHA_CAUSE_, and the time of cause 1
  * Reply: wait for a request, with the answer of the request whose task has ended, if one is owed, and the error of the other.
- * Refused by: 5, the result does not fit the wait, a code stands for nothing, or no Tx is to be entered; 10, the length. */
+ * Refused by: 5, the result does not fit the wait, a code stands for nothing, or no request's Tx is to be entered; 10, the length. */
 uint8_t widosha_fallback(
     uint8_t result, uint16_t length, uint64_t time, uint8_t cause, uint64_t cause_time, uint8_t quality,
     uint8_t *state, size_t state_len, uint8_t *line, size_t line_len,
     uint8_t *reply, size_t reply_len, uint8_t *pool, size_t pool_len);
 
-/* The radio did not leave its previous task, in which it receives, for the one that the last action named, and receives on. It may
- * do so where that action has the flag for it.
+/* The frame that the radio receives is damaged; so it did not leave this task for the one that the last action named, and receives on,
+ * in the same buffer. It does so where that action has the flag for it. The frame gets no acknowledgement, and the request to receive
+ * no answer yet.
  * Reply: listen.
  * Refused by: 5, the last action has no such flag. */
 uint8_t widosha_rollback(

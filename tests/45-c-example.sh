@@ -1,12 +1,14 @@
 #!/usr/bin/env bash
-# The C side: c/weighing.c is compiled with every C compiler that is there, with warnings as errors, linked with the proved library and
-# run; it prints what c/weighing.expected says, in which each line has its reason. c/widosha_host.h is compiled as C99 and as C++11, over
-# functions that record their numbers (tests/c/wrappers.c), and each of a list of wrong changes of it is found. The lines of README.md
-# are compiled and run too.
+# The C side: c/weighing.c is compiled with every C compiler that is there, as C++ too, with warnings as errors, linked with the proved
+# library and run; it prints what c/weighing.expected says, in which each line has its reason. So is a host of two translation units that
+# meets every refusal (tests/c/exchanges.c, second.c). c/widosha_host.h is compiled over functions that record their numbers
+# (tests/c/wrappers.c), and each of a list of wrong changes of it is found. Every name of docs/LAYOUTS.md has its number as the compiler
+# has it. The lines of README.md are compiled and run too.
 cd "$(dirname "${BASH_SOURCE[0]}")/.." || exit 2
 library=${WIDOSHA_LIB_DIR:-target/staticlib}/libdriver_c.a
+frames=${WIDOSHA_LIB_DIR:-target/staticlib}/libframe_c.a
 out=target/c
-flags=(-Wall -Wextra -Wpedantic -Werror -Iinclude)
+flags=(-Wall -Wextra -Wpedantic -Wconversion -Wshadow -Werror -Iinclude)
 compilers=()
 for each in gcc clang; do
     if command -v "$each" >/dev/null; then
@@ -19,8 +21,13 @@ if [ ${#compilers[@]} -eq 0 ]; then
     echo "there is no C compiler: gcc or clang"
     exit 77
 fi
-if [ ! -f "$library" ]; then
-    echo "there is no $library: tools/staticlib.sh driver_c builds it"
+if command -v g++ >/dev/null; then
+    compilers+=("g++ -std=c++11 -x c++")
+else
+    echo "not compiled: there is no g++"
+fi
+if [ ! -f "$library" ] || [ ! -f "$frames" ]; then
+    echo "there is no $library or no $frames: tools/staticlib.sh driver_c frame_c builds them"
     exit 1
 fi
 mkdir -p "$out"
@@ -34,11 +41,30 @@ awk '/^#/ { reason = 1; next }
      /./ { if (!reason) { print "no reason stands above: " $0 > "/dev/stderr"; bare = 1 } reason = 0; print }
      END { exit bare }' c/weighing.expected >"$out/expected" || exit 1
 for compiler in "${compilers[@]}"; do
-    $compiler "${flags[@]}" c/weighing.c "$library" -o "$out/weighing" || failed "c/weighing.c does not compile: $compiler"
+    $compiler "${flags[@]}" c/weighing.c -x none "$library" -o "$out/weighing" || failed "c/weighing.c does not compile: $compiler"
     "$out/weighing" >"$out/printed" || failed "c/weighing.c ended with $?: $compiler"
     diff "$out/expected" "$out/printed" || failed "c/weighing.c prints something else than c/weighing.expected says"
     echo "c/weighing.c, by $compiler: $(wc -l <"$out/printed") lines, as expected"
 done
+
+# A host that meets every refusal, with both libraries. As C++ it links only if the header says that the functions are C's.
+for compiler in "${compilers[@]}"; do
+    $compiler "${flags[@]}" -Ic tests/c/exchanges.c tests/c/second.c -x none "$library" "$frames" -o "$out/exchanges" ||
+        failed "tests/c/exchanges.c does not compile: $compiler"
+    "$out/exchanges" || failed "a reply is not what docs/LAYOUTS.md says, or c/widosha_host.h tells it wrongly: $compiler"
+    echo "tests/c/exchanges.c meets every refusal, and each reply is as it should be: $compiler"
+done
+
+# The names of docs/LAYOUTS.md with their numbers, as the compiler has them, by themselves and in an expression; tests/40-header.sh reads
+# the digits behind a name alone.
+{
+    echo '#include "widosha.h"'
+    sed -nE 's/^\| ([a-z_, ]*\| )?([0-9]+) \|.* `(WIDOSHA_[A-Z_]+)` \|$/typedef char is_\3[(\3) * 3 == \2 * 3 \&\& 3 * \3 == 3 * \2 ? 1 : -1];/p' docs/LAYOUTS.md
+} >"$out/numbers.c"
+numbers=$(grep -c typedef "$out/numbers.c")
+[ "$numbers" -ge 72 ] || failed "docs/LAYOUTS.md names $numbers numbers"
+${compilers[0]} "${flags[@]}" -fsyntax-only "$out/numbers.c" || failed "a name has another number than docs/LAYOUTS.md says"
+echo "$numbers names have the numbers of docs/LAYOUTS.md"
 
 # README.md's lines, in a program that has what they take for granted.
 {
@@ -61,12 +87,7 @@ ${compilers[0]} "${flags[@]}" -Ic "$out/readme.c" "$library" -o "$out/readme" ||
 "$out/readme" || failed "README.md's lines do not come to what they say"
 echo "README.md's lines come to what they say"
 
-# The helper alone, over functions that record; as C++11 too.
-if command -v g++ >/dev/null; then
-    compilers+=("g++ -std=c++11 -x c++")
-else
-    echo "not compiled: there is no g++"
-fi
+# The helper alone, over functions that record.
 for compiler in "${compilers[@]}"; do
     $compiler "${flags[@]}" -Ic tests/c/wrappers.c -o "$out/wrappers" || failed "tests/c/wrappers.c does not compile: $compiler"
     "$out/wrappers" || failed "c/widosha_host.h is wrong: $compiler"
@@ -102,6 +123,11 @@ s/action + 4, 8/action + 4, 7/
 s/SPACING_SHIFT & 3/SPACING_SHIFT \& 1/
 s/WIDOSHA_FLAG_CCA | WIDOSHA_FLAG_ROLLBACK/WIDOSHA_FLAG_CCA/
 s/which == 0 ? 12 : 30/which == 0 ? 30 : 12/
+s/reply\[12\] != WIDOSHA_ANSWER_NONE/reply[12] == WIDOSHA_ANSWER_FRAME/
+s/(enum widosha_answer_code)bytes\[0\]/(enum widosha_answer_code)(bytes[0] \& 7)/
+s/bytes + 1, 4/bytes + 1, 3/
+s/"Accepted."/"No refusal has this number."/
+s/return "No refusal has this number."/return "Accepted."/
 s/(unsigned)(host->reply\[30\] != WIDOSHA_ANSWER_NONE)/0u/
 s/bytes\[5\]/bytes[6]/
 s/bytes\[15\]/bytes[16]/
@@ -110,5 +136,5 @@ s/buffer < host->count/buffer <= host->count/
 s/host->state\[1\]/host->state[2]/
 s/127 - host->state\[3\]/127 - host->state[2]/
 CHANGES
-[ "$found" -ge 27 ] || failed "$found changes tried"
+[ "$found" -ge 32 ] || failed "$found changes tried"
 echo "each of $found changes of c/widosha_host.h is found"

@@ -219,6 +219,27 @@ static void try_answers(void)
     EXPECT(answer.length == 0x6a && answer.time == UINT64_C(0xe2d1c0bfae9d8c7b) && answer.quality == 0xf3);
 }
 
+/* Every code is an answer, in either place. */
+static void try_codes(void)
+{
+    int code;
+    for (code = WIDOSHA_ANSWER_SENT; code <= WIDOSHA_ANSWER_CRC_ERROR; code++) {
+        memset(host.reply, 0, sizeof host.reply);
+        host.reply[12] = (uint8_t)code;
+        EXPECT(widosha_host_answers(&host) == 1 && (int)widosha_host_answer_at(&host, 0).outcome == code);
+        host.reply[30] = (uint8_t)code;
+        EXPECT(widosha_host_answers(&host) == 2 && (int)widosha_host_answer_at(&host, 1).outcome == code);
+    }
+}
+
+/* The numbers that are no refusal; tests/40-header.sh compares the sentences of the others. */
+static void try_sentences(void)
+{
+    EXPECT(strcmp(widosha_host_refusal(0), "Accepted.") == 0);
+    EXPECT(strcmp(widosha_host_refusal(15), "No refusal has this number.") == 0);
+    EXPECT(strcmp(widosha_host_refusal(WIDOSHA_FCS_NO), "No refusal has this number.") == 0);
+}
+
 static void try_pool(void)
 {
     host.state[0] = 5, host.state[1] = 7, host.state[2] = 6, host.state[3] = 4;
@@ -245,6 +266,8 @@ int main(void)
         try_call(which);
     try_action();
     try_answers();
+    try_codes();
+    try_sentences();
     try_pool();
     try_versions();
     return wrong;

@@ -299,7 +299,8 @@ uint8_t widosha_entered(
     uint8_t *reply, size_t reply_len, uint8_t *pool, size_t pool_len);
 
 /* The radio has left its previous task, but could not enter the Tx of a request that the last action named, and is off. For other tasks
- * there is no such call; the ACK of a received frame, if it cannot be sent, is given up with the frame by widosha_rollback.
+ * there is no such call. The ACK of a received frame checks no channel and keeps no time: what keeps the radio from sending it is the
+ * frame's damage, and that is widosha_rollback.
  *     result, length, time, quality  as above
  *     cause, cause_time              WIDOSHA_CAUSE_, and the time of cause 1
  * Reply: wait for a request, with the answer of the request whose task has ended, if one is owed, and the error of the other.

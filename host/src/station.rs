@@ -219,7 +219,8 @@ pub trait Host {
     fn answered(&mut self, answer: Answer, buffers: &dyn Buffers);
 
     /// A request that `next_request` gave is wrong by itself (refusals 6, 7, 8 and 13) and has not arrived. `next_request` is asked
-    /// again, so it should not give the same once more.
+    /// again, so it should not give the same once more. After 32 refusals in one turn it is asked in the next turn only, so that a
+    /// host that is always wrong does not keep an interrupt handler.
     fn refused(&mut self, request: Request, refusal: Refusal);
 
     /// A call was made, by the radio, the host or the loop, with this result; its answers come after this. For logs.
@@ -382,6 +383,9 @@ pub struct Station<S, R, H> {
     begun: bool,
 }
 
+/// How many requests of a host may be refused in one turn: as many as a pool can have buffers, so that a host may try each.
+const REFUSED_IN_A_TURN: u8 = 32;
+
 impl<'p, const N: usize, R: Radio, H: Host> Station<DriverService<'p, N>, R, H> {
     /// Starts a service on this pool. `host_has_more` then takes the host's first requests.
     pub fn start(settings: Settings, pool: &'p mut Pool<N>, radio: R, host: H) -> Result<Self, Error> {
@@ -530,14 +534,18 @@ impl<S: Service, R: Radio, H: Host> Station<S, R, H> {
         }
     }
 
-    /// As many requests of the host arrive as there is room for.
+    /// As many requests of the host arrive as there is room for, until it has been wrong too often.
     fn fill(&mut self) -> Result<(), Error> {
-        while self.service.waiting().contains(&None) {
+        let mut refused = 0;
+        while refused < REFUSED_IN_A_TURN && self.service.waiting().contains(&None) {
             let Some(request) = self.host.next_request(&mut self.service) else {
                 return Ok(());
             };
             match self.make(Call::Arrive(request)) {
-                Err(Error::Refused(refusal)) => self.host.refused(request, refusal),
+                Err(Error::Refused(refusal)) => {
+                    refused += 1;
+                    self.host.refused(request, refusal);
+                }
                 made => made?,
             }
         }

@@ -23,8 +23,13 @@ pub enum RadioTask {
     /// does not fit again.
     Stop(StopListening),
     /// To receive on until the header is there: `Header`, with how many of the frame's bytes stand in the listening buffer by then.
+    ///
+    /// It is told once, and a frame of which it is told too early is taken for one that is not for us. The header is there when
+    /// `PreliminaryFrameInfo::of` the arrived bytes (copied, where the radio goes on writing behind them) has an `addressing_end`.
+    /// Once 23 bytes have arrived, or all but the checksum, nothing more is to be waited for.
     ReadHeader,
-    /// To send: `Entered` or `Fallback`, once the present task has ended. With `rollback` it is an ACK: `Entered` or `Rollback`.
+    /// To send: `Entered` or `Fallback`, once the present task has ended. With `rollback` it is an ACK: `Entered` or `Rollback`. An
+    /// ACK for which it has become too late takes `Rollback` too: its frame counts as not received.
     Tx {
         /// The buffer of the frame.
         buffer: u8,
@@ -77,7 +82,7 @@ pub enum RadioEvent {
     Stopped(StopResult),
     /// The beginning of the frame that is being received stands in the listening buffer.
     Header {
-        /// How many of its bytes.
+        /// How many of its bytes, without those of the checksum.
         arrived: u16,
         /// The frame's length with checksum.
         length: u16,
@@ -166,7 +171,9 @@ impl From<RadioEvent> for Call {
     }
 }
 
-/// The buffers of a service, for a radio and a host: they need no more of it. Each method is that of `DriverService`.
+/// The buffers of a service, for a radio and a host: they need no more of it. Each method is that of `DriverService`. All buffers
+/// are there, those too that a radio is writing into, of which no reference is to be made (the crate's documentation, "The pool and
+/// the radio").
 pub trait Buffers {
     /// A buffer's frame: the 127 bytes after the headroom.
     fn frame(&self, buffer: u8) -> Option<&[u8; FRAME_LENGTH]>;
@@ -351,7 +358,8 @@ pub trait Host {
 /// # From async code
 ///
 /// What awaits the radio's interrupt is the wrapper; the station is only called. Where the host's own queue is to be awaited too, both
-/// are selected, and the other branch calls `host_has_more`:
+/// are selected, and the other branch calls `host_has_more`. The future that comes second is dropped, so that of the interrupt
+/// takes the event only when it is ready:
 ///
 /// ```
 /// use core::future::Future;
@@ -371,7 +379,8 @@ pub trait Host {
 /// # Radios that have the outcome at once
 ///
 /// `Radio::begin` may return it, and must not call the station: the loop goes on with it as if it were told. If it does not fit, the
-/// method that was called gives it back as its error; what was done before stands, and the radio owes the outcome of its task still.
+/// method that was called gives it back as its error; what was done before stands, the event of `told` included, and the radio owes
+/// the outcome of its task still. `Host::made` sees which call it was that was refused.
 /// As long as a radio has every outcome at once, the method does not return; listening is where a radio has none.
 #[derive(Debug)]
 pub struct Station<S, R, H> {
@@ -408,7 +417,9 @@ impl<S: Service, R: Radio, H: Host> Station<S, R, H> {
 
     /// The radio tells what its task came to. Then the host has its turns, until the next step is the radio's: that one is begun.
     ///
-    /// An event that does not fit is given back as the error, and nothing is changed.
+    /// An event that is refused is given back as the error, and nothing is changed: the radio owes an outcome of its task still. 5
+    /// says that it is none of this task's; 10, that a frame or its arrived bytes have a wrong length (`RxResult`, `Call::Header`),
+    /// which depends on what others send, so that a port must have another outcome for it.
     pub fn told(&mut self, event: RadioEvent) -> Result<(), Error> {
         self.make(event.into())?;
         self.go_on()

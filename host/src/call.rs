@@ -85,7 +85,7 @@ pub enum StopResult {
     FrameStarted,
     /// The radio stopped listening. The result, its link quality included, comes in no answer.
     RxWindowEnded(RxResult),
-    /// The radio listens on.
+    /// The radio could not stop and listens on. (A stop that has come too late has not failed: `RadioTask::Stop`.)
     Failed,
 }
 

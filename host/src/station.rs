@@ -21,6 +21,9 @@ pub enum RadioTask {
     /// To stop listening: `Stopped`. Where a frame has started, also before this task was begun, the outcome is that it has; a
     /// `FrameStart` that was not told yet is dropped. After `Failed` the radio listens on; where a Now follows an At that failed, it
     /// does not fit again.
+    ///
+    /// A stop whose time has passed is not `Failed`: an At has ended its window then, and after a Before it is the Tx that comes to
+    /// `Fallback`. As the Tx waits still, a Before or a Now that has failed comes again at once, and again if it always fails.
     Stop(StopListening),
     /// To receive on until the header is there: `Header`, with how many of the frame's bytes stand in the listening buffer by then.
     ///
@@ -44,7 +47,8 @@ pub enum RadioTask {
         /// Whether the radio goes back to listening if the present frame turns out to be damaged.
         rollback: bool,
     },
-    /// To receive: `Entered` once the present task has ended and the radio listens.
+    /// To receive: `Entered` once the present task has ended and the radio listens. There is no `Fallback`: where the start has passed,
+    /// the radio listens late.
     Rx {
         /// The buffer for the frame.
         buffer: u8,

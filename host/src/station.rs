@@ -436,7 +436,8 @@ impl<S: Service, R: Radio, H: Host> Station<S, R, H> {
     }
 
     /// One request arrives, of a host that does not wait until it is asked. What is refused, also by 12 as four wait, is given back
-    /// as the error, and nothing is changed.
+    /// as the error, and nothing is changed. 6 to 8, 12 and 13 are the arrival's; another refusal is that of an outcome which the
+    /// radio had at once, and then the request has arrived.
     pub fn arrive(&mut self, request: Request) -> Result<(), Error> {
         self.make(Call::Arrive(request))?;
         self.go_on()

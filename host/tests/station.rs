@@ -756,6 +756,7 @@ struct Wrong {
 impl Host for Wrong {
     fn next_request(&mut self, _: &mut dyn Buffers) -> Option<Request> {
         self.asked += 1;
+        assert!(self.asked < 1000, "it is asked without end");
         Some(Request {
             token: self.asked,
             start: Timestamp::BestEffort,

@@ -44,7 +44,8 @@ pub struct Request {
 pub enum RxResult {
     /// A frame was received.
     Frame {
-        /// Its length without checksum.
+        /// Its length without checksum: 1 to 127 less the checksum. Another is refused by 10, and nothing has been told then: the
+        /// radio tells such a frame, as one of nothing but a checksum, as a CRC error.
         length: u16,
         /// When it was received.
         time: LocalClockInstant,
@@ -84,7 +85,7 @@ pub enum StopResult {
     FrameStarted,
     /// The radio stopped listening. The result, its link quality included, comes in no answer.
     RxWindowEnded(RxResult),
-    /// The radio listens on.
+    /// The radio could not stop and listens on. (A stop that has come too late has not failed: `RadioTask::Stop`.)
     Failed,
 }
 
@@ -125,7 +126,7 @@ pub enum Call {
     Stopped(StopResult),
     /// The beginning of the frame that is being received has arrived.
     Header {
-        /// How many of its bytes have arrived.
+        /// How many of its bytes have arrived, without those of the checksum: above 127 less the checksum this is refused by 10.
         arrived: u16,
         /// The frame's length with checksum.
         length: u16,

@@ -157,7 +157,10 @@ impl<'p, const N: usize> DriverService<'p, N> {
         self.call(|slices| raw::stopped(outcome, length, time, quality, slices))
     }
 
-    /// So many bytes of the frame that is being received have arrived in the listening buffer; its length is with checksum.
+    /// So many bytes of the frame that is being received have arrived in the listening buffer, without those of the checksum; the
+    /// frame's length is with checksum.
+    ///
+    /// This is the one look at the header. A frame whose address fields have not all arrived by now is not for us, and is dropped.
     ///
     /// A frame for us that requests an acknowledgement and has a number leads to an ACK turn. A broadcast (to the short address FFFF,
     /// or without a destination) never does: it is received as a frame that requests none.

@@ -48,7 +48,8 @@ pub struct Settings {
     pub spare_buffer: u8,
 }
 
-/// The buffers, 144 bytes each. `N` is 3 to 32; another number does not compile.
+/// The buffers, 144 bytes each. `N` is 3 to 32; another number does not compile. 8 are held at most: the service's own two, those of
+/// four requests that wait, and those of two that have left the line and are not answered yet.
 ///
 /// ```compile_fail
 /// let pool = widosha::Pool::<2>::new();

@@ -21,10 +21,18 @@ pub enum RadioTask {
     /// To stop listening: `Stopped`. Where a frame has started, also before this task was begun, the outcome is that it has; a
     /// `FrameStart` that was not told yet is dropped. After `Failed` the radio listens on; where a Now follows an At that failed, it
     /// does not fit again.
+    ///
+    /// A stop whose time has passed is not `Failed`: an At has ended its window then, and after a Before it is the Tx that comes to
+    /// `Fallback`. As the Tx waits still, a Before or a Now that has failed comes again at once, and again if it always fails.
     Stop(StopListening),
     /// To receive on until the header is there: `Header`, with how many of the frame's bytes stand in the listening buffer by then.
+    ///
+    /// It is told once, and a frame of which it is told too early is taken for one that is not for us. The header is there when
+    /// `PreliminaryFrameInfo::of` the arrived bytes (copied, where the radio goes on writing behind them) has an `addressing_end`.
+    /// Once 23 bytes have arrived, or all but the checksum, nothing more is to be waited for.
     ReadHeader,
-    /// To send: `Entered` or `Fallback`, once the present task has ended. With `rollback` it is an ACK: `Entered` or `Rollback`.
+    /// To send: `Entered` or `Fallback`, once the present task has ended. With `rollback` it is an ACK: `Entered` or `Rollback`. An
+    /// ACK for which it has become too late takes `Rollback` too: its frame counts as not received.
     Tx {
         /// The buffer of the frame.
         buffer: u8,
@@ -39,7 +47,8 @@ pub enum RadioTask {
         /// Whether the radio goes back to listening if the present frame turns out to be damaged.
         rollback: bool,
     },
-    /// To receive: `Entered` once the present task has ended and the radio listens.
+    /// To receive: `Entered` once the present task has ended and the radio listens. There is no `Fallback`: where the start has passed,
+    /// the radio listens late.
     Rx {
         /// The buffer for the frame.
         buffer: u8,
@@ -77,7 +86,7 @@ pub enum RadioEvent {
     Stopped(StopResult),
     /// The beginning of the frame that is being received stands in the listening buffer.
     Header {
-        /// How many of its bytes.
+        /// How many of its bytes, without those of the checksum.
         arrived: u16,
         /// The frame's length with checksum.
         length: u16,
@@ -166,7 +175,9 @@ impl From<RadioEvent> for Call {
     }
 }
 
-/// The buffers of a service, for a radio and a host: they need no more of it. Each method is that of `DriverService`.
+/// The buffers of a service, for a radio and a host: they need no more of it. Each method is that of `DriverService`. All buffers
+/// are there, those too that a radio is writing into, of which no reference is to be made (the crate's documentation, "The pool and
+/// the radio").
 pub trait Buffers {
     /// A buffer's frame: the 127 bytes after the headroom.
     fn frame(&self, buffer: u8) -> Option<&[u8; FRAME_LENGTH]>;
@@ -219,7 +230,8 @@ pub trait Host {
     fn answered(&mut self, answer: Answer, buffers: &dyn Buffers);
 
     /// A request that `next_request` gave is wrong by itself (refusals 6, 7, 8 and 13) and has not arrived. `next_request` is asked
-    /// again, so it should not give the same once more.
+    /// again, so it should not give the same once more. After 32 refusals in one turn it is asked in the next turn only, so that a
+    /// host that is always wrong does not keep an interrupt handler.
     fn refused(&mut self, request: Request, refusal: Refusal);
 
     /// A call was made, by the radio, the host or the loop, with this result; its answers come after this. For logs.
@@ -350,7 +362,8 @@ pub trait Host {
 /// # From async code
 ///
 /// What awaits the radio's interrupt is the wrapper; the station is only called. Where the host's own queue is to be awaited too, both
-/// are selected, and the other branch calls `host_has_more`:
+/// are selected, and the other branch calls `host_has_more`. The future that comes second is dropped, so that of the interrupt
+/// takes the event only when it is ready:
 ///
 /// ```
 /// use core::future::Future;
@@ -370,7 +383,8 @@ pub trait Host {
 /// # Radios that have the outcome at once
 ///
 /// `Radio::begin` may return it, and must not call the station: the loop goes on with it as if it were told. If it does not fit, the
-/// method that was called gives it back as its error; what was done before stands, and the radio owes the outcome of its task still.
+/// method that was called gives it back as its error; what was done before stands, the event of `told` included, and the radio owes
+/// the outcome of its task still. `Host::made` sees which call it was that was refused.
 /// As long as a radio has every outcome at once, the method does not return; listening is where a radio has none.
 #[derive(Debug)]
 pub struct Station<S, R, H> {
@@ -381,6 +395,9 @@ pub struct Station<S, R, H> {
     /// Whether the radio's part of the action is begun.
     begun: bool,
 }
+
+/// How many requests of a host may be refused in one turn: as many as a pool can have buffers, so that a host may try each.
+const REFUSED_IN_A_TURN: u8 = 32;
 
 impl<'p, const N: usize, R: Radio, H: Host> Station<DriverService<'p, N>, R, H> {
     /// Starts a service on this pool. `host_has_more` then takes the host's first requests.
@@ -404,7 +421,9 @@ impl<S: Service, R: Radio, H: Host> Station<S, R, H> {
 
     /// The radio tells what its task came to. Then the host has its turns, until the next step is the radio's: that one is begun.
     ///
-    /// An event that does not fit is given back as the error, and nothing is changed.
+    /// An event that is refused is given back as the error, and nothing is changed: the radio owes an outcome of its task still. 5
+    /// says that it is none of this task's; 10, that a frame or its arrived bytes have a wrong length (`RxResult`, `Call::Header`),
+    /// which depends on what others send, so that a port must have another outcome for it.
     pub fn told(&mut self, event: RadioEvent) -> Result<(), Error> {
         self.make(event.into())?;
         self.go_on()
@@ -417,7 +436,8 @@ impl<S: Service, R: Radio, H: Host> Station<S, R, H> {
     }
 
     /// One request arrives, of a host that does not wait until it is asked. What is refused, also by 12 as four wait, is given back
-    /// as the error, and nothing is changed.
+    /// as the error, and nothing is changed. 6 to 8, 12 and 13 are the arrival's; another refusal is that of an outcome which the
+    /// radio had at once, and then the request has arrived.
     pub fn arrive(&mut self, request: Request) -> Result<(), Error> {
         self.make(Call::Arrive(request))?;
         self.go_on()
@@ -530,14 +550,18 @@ impl<S: Service, R: Radio, H: Host> Station<S, R, H> {
         }
     }
 
-    /// As many requests of the host arrive as there is room for.
+    /// As many requests of the host arrive as there is room for, until it has been wrong too often.
     fn fill(&mut self) -> Result<(), Error> {
-        while self.service.waiting().contains(&None) {
+        let mut refused = 0;
+        while refused < REFUSED_IN_A_TURN && self.service.waiting().contains(&None) {
             let Some(request) = self.host.next_request(&mut self.service) else {
                 return Ok(());
             };
             match self.make(Call::Arrive(request)) {
-                Err(Error::Refused(refusal)) => self.host.refused(request, refusal),
+                Err(Error::Refused(refusal)) => {
+                    refused += 1;
+                    self.host.refused(request, refusal);
+                }
                 made => made?,
             }
         }

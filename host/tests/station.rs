@@ -329,7 +329,7 @@ struct TestHost {
 impl Host for TestHost {
     fn next_request(&mut self, buffers: &mut dyn Buffers) -> Option<Request> {
         let Common { action, begun, .. } = *self.common.borrow();
-        let of_host = action.map_or(true, |action| HostTask::of(action).is_some());
+        let of_host = action.is_none_or(|action| HostTask::of(action).is_some());
         assert!(of_host || begun, "the radio's part of {action:?} can be begun first");
         let wants = self.common.borrow().wants;
         self.late = wants > 0 && self.rng.chance(5);
@@ -734,6 +734,66 @@ fn random_runs() {
     };
     let (calls, refused, answers) = (of("call "), of("refusal "), of("answer "));
     println!("station: {calls} calls accepted, {refused} refused, {answers} answers");
+}
+
+// ---- A host that is always wrong
+
+/// A radio that never has an outcome.
+struct Silent;
+
+impl Radio for Silent {
+    fn begin(&mut self, _: RadioTask, _: &mut dyn Buffers) -> Option<RadioEvent> {
+        None
+    }
+}
+
+/// So many requests for the ACK buffer, each with a token of its own, and then right ones.
+struct Wrong {
+    asked: u32,
+    wrong: u32,
+}
+
+impl Host for Wrong {
+    fn next_request(&mut self, _: &mut dyn Buffers) -> Option<Request> {
+        self.asked += 1;
+        assert!(self.asked < 1000, "it is asked without end");
+        Some(Request {
+            token: self.asked,
+            start: Timestamp::BestEffort,
+            buffer: if self.asked <= self.wrong { ACK } else { 2 },
+            task: Task::Rx,
+        })
+    }
+
+    fn answered(&mut self, answer: Answer, _: &dyn Buffers) {
+        panic!("{answer:?} of nothing");
+    }
+
+    fn refused(&mut self, request: Request, refusal: Refusal) {
+        assert_eq!((refusal, request.token), (Refusal::BufferHeld, self.asked));
+    }
+}
+
+// It is asked so often in one turn and no more, and in the next turn again. With 31 wrong requests, one for each other buffer that a
+// pool can have, the right one behind them arrives in the same turn, and the radio begins it.
+#[test]
+fn a_host_that_is_always_wrong_is_left() {
+    let start = |wrong| {
+        Station::start(
+            SETTINGS,
+            Box::leak(Box::<Pool<BUFFERS>>::default()),
+            Silent,
+            Wrong { asked: 0, wrong },
+        )
+    };
+    let mut station = start(u32::MAX).expect("the settings are in range");
+    for turns in 1..=3 {
+        assert_eq!(station.host_has_more(), Ok(()));
+        assert_eq!((station.host().asked, station.action()), (32 * turns, Action::ReceiveRequest));
+    }
+    let mut station = start(31).expect("the settings are in range");
+    assert_eq!(station.host_has_more(), Ok(()));
+    assert!(matches!(station.action(), Action::Rx { buffer: 2, .. }));
 }
 
 // ---- Async code

@@ -127,8 +127,8 @@
 //!
 //! **The end.** A service that is dropped or forgotten stops no radio, and the pool is its owner's again from the last use of the
 //! service on. So the pool of a radio that writes by itself is lent for `'static`, as below; one that is lent for less is safe only
-//! if the radio is stopped before the loan ends, on every way out of the function. A pool that is lent for `'static` does not come
-//! back, not from a start that is refused either.
+//! if the radio is stopped before the loan ends, on every way out of the function. `into_pool` gives a pool that is lent for
+//! `'static` back, for a new start once the radio has been stopped; from a start that is refused it does not come back.
 //!
 //! The calls read at most these bytes of the pool, and write these and no others:
 //!

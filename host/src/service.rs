@@ -19,7 +19,7 @@ use core::ptr::NonNull;
 /// Every method for a call gives the reply of the accepted call, or why it was refused; a refused call changes nothing.
 ///
 /// The pool is lent for as long as the service lives. It stays where it is when the service is moved, and is its owner's again once
-/// the service is gone:
+/// the service is gone (a pool that was lent for `'static` comes back by `into_pool`):
 ///
 /// ```
 /// # use widosha::*;
@@ -271,6 +271,35 @@ impl<'p, const N: usize> DriverService<'p, N> {
         self.pool.pool()
     }
 
+    /// Ends the loan and gives the borrow back, so that a pool that was lent for `'static` can be lent again, as after a reset of the
+    /// radio. Where a radio reads or writes the pool by itself, it has been stopped before, and nobody goes on using a pointer of
+    /// `buffer_ptr`: this returns a reference to all bytes. What had arrived and was not answered stays so.
+    ///
+    /// ```
+    /// # use widosha::*;
+    /// # let settings = Settings {
+    /// #     headroom: 2,
+    /// #     tailroom: 0,
+    /// #     fcs_length: FcsLength::Two,
+    /// #     hardware_addr: 1,
+    /// #     pan_id: 0x1234,
+    /// #     implicit_broadcast: false,
+    /// #     ack_buffer: 0,
+    /// #     spare_buffer: 1,
+    /// # };
+    /// let pool: &'static mut Pool<3> = Box::leak(Box::default());
+    /// let (mut service, _) = DriverService::start(settings, pool)?;
+    /// service.put_frame(2, &[0x61, 0x88, 7]);
+    /// let pool: &'static mut Pool<3> = service.into_pool();
+    /// assert_eq!(pool.buffer(2).map(|buffer| buffer[4]), Some(7));
+    /// let (again, first) = DriverService::start(settings, pool)?;
+    /// assert_eq!((first.action, again.waiting().count()), (Action::ReceiveRequest, 0));
+    /// # Ok::<(), Error>(())
+    /// ```
+    pub fn into_pool(self) -> &'p mut Pool<N> {
+        self.pool.into_inner()
+    }
+
     fn call(&mut self, function: impl FnOnce(Slices<'_>) -> u8) -> Result<Reply, Error> {
         self.decoded(function, Reply::decode)
     }
@@ -456,6 +485,24 @@ mod tests {
         let moved = Box::new(service);
         assert_eq!(moved.buffer_ptr(2).map(|pointer| pointer.as_ptr().cast_const()), places[2]);
         assert_eq!(moved.buffer(2).map(|buffer| buffer[143]), Some(143));
+    }
+
+    // Two loans of one pool, one after the other: it comes back for as long as it was lent, in its place, with what was written in it.
+    #[test]
+    fn the_pool_comes_back_and_is_lent_again() {
+        let lent = pool::<4>();
+        let place = core::ptr::from_ref(lent);
+        let (mut service, _) = DriverService::start(SETTINGS, lent).expect("accepted");
+        service.put_frame(2, &[1, 2, 3]);
+        service.arrive(rx(9, 1)).expect("the line is empty");
+        let returned: &'static mut Pool<4> = service.into_pool();
+        assert_eq!(core::ptr::from_ref(returned), place);
+        assert_eq!(returned.buffer(2).map(|b| &b[..6]), Some(&[0, 0, 1, 2, 3, 0][..]));
+        returned.buffer_mut(3).expect("it is there").fill(0xff);
+        let (mut again, _) = DriverService::start(SETTINGS, returned).expect("accepted");
+        assert_eq!(again.frame(3).map(|f| &f[..4]), Some(&[2, 0x10, 0, 0xff][..]));
+        assert_eq!(again.waiting().count(), 0);
+        assert!(taken(&mut again, rx(9, 1)).is_ok());
     }
 
     // What a radio writes through a buffer's pointer is what the next call and the host read there, and the other way round.

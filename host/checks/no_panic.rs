@@ -76,6 +76,7 @@ pub extern "C" fn bytes(service: &mut DriverService<4>, buffer: u8, frame: &mut 
     let there = usize::from(service.buffer_ptr(buffer).is_some());
     let row = service.pool().buffer(buffer).map_or(0, |row| row[143]);
     let known = usize::from(service.wait().is_some()) + usize::from(service.settings().headroom);
+    let known = known + usize::from(service.is_held(buffer));
     known
         + there
         + usize::from(last)

@@ -267,6 +267,7 @@ mod error;
 mod fcs;
 #[allow(unsafe_code)]
 pub mod ffi;
+mod held;
 mod info;
 mod lent;
 mod line;

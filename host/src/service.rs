@@ -2,6 +2,7 @@
 use crate::call::{Call, Cause, Request, RxResult, StopResult, TaskResult, Timestamp};
 use crate::error::Error;
 use crate::ffi::{BUFFER_LENGTH, LINE_LENGTH, REPLY_LENGTH, STATE_LENGTH};
+use crate::held;
 use crate::info::Received;
 use crate::lent::LentPool;
 use crate::line::{self, LINE_CAPACITY};
@@ -266,6 +267,14 @@ impl<'p, const N: usize> DriverService<'p, N> {
         line::waiting(&self.line)
     }
 
+    /// Whether a buffer is held: one of the service's own two, or that of a request that waits or that has left the line and is not
+    /// answered. A radio works on such buffers alone, and an arrival that names one is refused by 7. No if there is no such buffer.
+    ///
+    /// This reads state and line, and no byte of the pool.
+    pub fn is_held(&self, buffer: u8) -> bool {
+        held::is_held(&self.state, &self.line, buffer)
+    }
+
     /// The pool.
     pub fn pool(&self) -> &Pool<N> {
         self.pool.pool()
@@ -348,6 +357,7 @@ mod tests {
     use super::*;
     use crate::*;
     use std::boxed::Box;
+    use std::vec::Vec;
 
     const SETTINGS: Settings = Settings {
         headroom: 2,
@@ -485,6 +495,26 @@ mod tests {
         let moved = Box::new(service);
         assert_eq!(moved.buffer_ptr(2).map(|pointer| pointer.as_ptr().cast_const()), places[2]);
         assert_eq!(moved.buffer(2).map(|buffer| buffer[143]), Some(143));
+    }
+
+    // From its arrival to its answer or withdrawal, and the service's own two from start on.
+    #[test]
+    fn buffers_are_held_until_they_are_given_back() {
+        let (mut service, _) = DriverService::start(SETTINGS, pool::<8>()).expect("accepted");
+        let held = |service: &DriverService<'_, 8>| (0..=255).filter(|buffer| service.is_held(*buffer)).collect::<Vec<u8>>();
+        assert_eq!(held(&service), [0, 3]);
+        service
+            .arrive(tx(1, Timestamp::BestEffort, 5, 12, true))
+            .expect("the line is empty");
+        service.arrive(rx(2, 7)).expect("it has room");
+        assert_eq!(held(&service), [0, 3, 5, 7]);
+        service.request().expect("it takes the first");
+        assert_eq!(held(&service), [0, 3, 5, 7], "the radio is to enter its task");
+        service.withdraw(2).expect("it waits");
+        assert_eq!(held(&service), [0, 3, 5]);
+        let (result, cause) = (TaskResult::Off, Cause::Task);
+        service.fallback(result, cause).expect("it cannot be sent");
+        assert_eq!(held(&service), [0, 3], "it is answered");
     }
 
     // Two loans of one pool, one after the other: it comes back for as long as it was lent, in its place, with what was written in it.

@@ -60,7 +60,7 @@ compile -C link-arg=-Wl,--allow-multiple-definition host/checks/other_version.rs
 
 if command -v nm >/dev/null; then
     compile --crate-type staticlib -C lto=fat -C codegen-units=1 host/checks/no_panic.rs --extern widosha="$out/libwidosha.rlib"
-    for each in start step bytes waiting facts pool time words begin looped checksum capture; do
+    for each in start step bytes waiting facts pool time ended words begin looped lent checksum capture; do
         if ! nm "$out/libno_panic.a" 2>/dev/null | grep -q " T $each\$"; then
             echo "the check for panics has no function $each"
             exit 1

@@ -76,6 +76,7 @@ pub extern "C" fn bytes(service: &mut DriverService<4>, buffer: u8, frame: &mut 
     let there = usize::from(service.buffer_ptr(buffer).is_some());
     let row = service.pool().buffer(buffer).map_or(0, |row| row[143]);
     let known = usize::from(service.wait().is_some()) + usize::from(service.settings().headroom);
+    let known = known + usize::from(service.is_held(buffer));
     known
         + there
         + usize::from(last)
@@ -111,10 +112,16 @@ pub extern "C" fn pool(pool: &mut Pool<4>, buffer: u8) -> u8 {
 }
 
 #[no_mangle]
-pub extern "C" fn time(nanoseconds: u64) -> u64 {
-    LocalClockInstant::from_nanos(nanoseconds)
-        .max(LocalClockInstant::default())
-        .as_nanos()
+pub extern "C" fn time(nanoseconds: u64, duration: &core::time::Duration) -> u64 {
+    let time = LocalClockInstant::from_nanos(nanoseconds).max(LocalClockInstant::default());
+    let later = time.checked_add(*duration).unwrap_or(time);
+    let difference = time.checked_duration_since(later).unwrap_or(*duration);
+    later.as_nanos() ^ difference.as_secs() ^ later.saturating_duration_since(time).as_secs()
+}
+
+#[no_mangle]
+pub extern "C" fn ended<'p>(service: &mut Option<DriverService<'p, 4>>, pool: &mut Option<&'p mut Pool<4>>) {
+    *pool = service.take().map(DriverService::into_pool);
 }
 
 /// A radio and a host that have what they are given next, and keep what the loop gives them.
@@ -163,6 +170,21 @@ impl Host for Kept {
 }
 
 type Looped<'p> = Station<DriverService<'p, 4>, Kept, Kept>;
+
+/// The same with radio and host lent, through the types and as trait objects.
+type Lent<'p, 'k> = Station<DriverService<'p, 4>, &'k mut Kept, &'k mut dyn Host>;
+
+#[no_mangle]
+pub extern "C" fn lent<'p>(station: &mut Option<Looped<'p>>, event: &RadioEvent, kept: &mut Option<[Kept; 2]>) -> u8 {
+    let Some(station) = station.take() else { return 0 };
+    let action = station.action();
+    let (service, mut radio, mut host) = station.into_parts();
+    let mut lent: Lent<'p, '_> = Station::new(service, action, &mut radio, &mut host);
+    let told = lent.told(*event).map_or_else(number, |()| 0);
+    let state = lent.into_parts().0.state()[17];
+    *kept = Some([radio, host]);
+    told ^ state
+}
 
 #[no_mangle]
 pub extern "C" fn begin<'p>(

@@ -44,6 +44,13 @@ impl<'p, const N: usize> LentPool<'p, N> {
         Self { pool, loan }
     }
 
+    /// The borrow itself, for what is left of it.
+    pub(crate) fn into_inner(mut self) -> &'p mut Pool<N> {
+        // SAFETY: the pointer comes from the exclusive borrow of a pool that lasts for 'p, and this value, which is gone with it, was
+        // the only way to it. Who asked for a pointer by `buffer_ptr` answers for its use.
+        unsafe { self.pool.as_mut() }
+    }
+
     /// As pointer and length: no reference to the bytes is made.
     pub(crate) fn bytes(&mut self) -> PoolBytes<'_> {
         PoolBytes {

@@ -118,13 +118,6 @@
 //! Headroom, the checksum's place behind the frame, and tailroom are the radio's with it. One buffer can be read and another be
 //! written at the same time, as where the ACK is made ready while the frame is still being received.
 //!
-<<<<<<< HEAD
-//! While the radio writes a buffer, **no reference to its bytes may live or be made**: `frame`, `frame_mut`, `put_frame`,
-//! `buffer`, `buffer_mut` and `received` are not called for this buffer, and `pool`, which is a reference to all of them, is not
-//! called at all. While it reads one, none that can write is made. Such a reference would say to the compiler that nobody else
-//! writes (or reads) there. `buffer_ptr` makes none, so it is what a radio is given; nor does any call make one. A host that keeps
-//! to the actions and the answers does not come near: it touches no buffer that is held.
-=======
 //! While the radio writes a buffer, **no reference to its bytes may live or be made**: neither `frame`, `frame_mut`, `put_frame`,
 //! `buffer`, `buffer_mut` and `received` of this buffer, nor `pool`, which is a reference to all of them. While it reads one,
 //! none that can write. Such a reference would say to the compiler that nobody else writes (or reads) there. `buffer_ptr` makes
@@ -134,9 +127,8 @@
 //!
 //! **The end.** A service that is dropped or forgotten stops no radio, and the pool is its owner's again from the last use of the
 //! service on. So the pool of a radio that writes by itself is lent for `'static`, as below; one that is lent for less is safe only
-//! if the radio is stopped before the loan ends, on every way out of the function. A pool that is lent for `'static` does not come
-//! back, not from a start that is refused either.
->>>>>>> 48b142b8167455f2f0e9c31bb755165b99bfe909
+//! if the radio is stopped before the loan ends, on every way out of the function. `into_pool` gives a pool that is lent for
+//! `'static` back, for a new start once the radio has been stopped; from a start that is refused it does not come back.
 //!
 //! The calls read at most these bytes of the pool, and write these and no others:
 //!
@@ -275,6 +267,7 @@ mod error;
 mod fcs;
 #[allow(unsafe_code)]
 pub mod ffi;
+mod held;
 mod info;
 mod lent;
 mod line;

@@ -2,6 +2,7 @@
 use crate::call::{Call, Cause, Request, RxResult, StopResult, TaskResult, Timestamp};
 use crate::error::Error;
 use crate::ffi::{BUFFER_LENGTH, LINE_LENGTH, REPLY_LENGTH, STATE_LENGTH};
+use crate::held;
 use crate::info::Received;
 use crate::lent::LentPool;
 use crate::line::{self, LINE_CAPACITY};
@@ -19,7 +20,7 @@ use core::ptr::NonNull;
 /// Every method for a call gives the reply of the accepted call, or why it was refused; a refused call changes nothing.
 ///
 /// The pool is lent for as long as the service lives. It stays where it is when the service is moved, and is its owner's again once
-/// the service is gone:
+/// the service is gone (a pool that was lent for `'static` comes back by `into_pool`):
 ///
 /// ```
 /// # use widosha::*;
@@ -266,9 +267,46 @@ impl<'p, const N: usize> DriverService<'p, N> {
         line::waiting(&self.line)
     }
 
+    /// Whether a buffer is held: one of the service's own two, or that of a request that waits or that has left the line and is not
+    /// answered. A radio works on such buffers alone, and an arrival that names one is refused by 7. No if there is no such buffer.
+    ///
+    /// This reads state and line, and no byte of the pool.
+    pub fn is_held(&self, buffer: u8) -> bool {
+        held::is_held(&self.state, &self.line, buffer)
+    }
+
     /// The pool.
     pub fn pool(&self) -> &Pool<N> {
         self.pool.pool()
+    }
+
+    /// Ends the loan and gives the borrow back, so that a pool that was lent for `'static` can be lent again, as after a reset of the
+    /// radio. Where a radio reads or writes the pool by itself, it has been stopped before, and nobody goes on using a pointer of
+    /// `buffer_ptr`: this returns a reference to all bytes. What had arrived and was not answered stays so.
+    ///
+    /// ```
+    /// # use widosha::*;
+    /// # let settings = Settings {
+    /// #     headroom: 2,
+    /// #     tailroom: 0,
+    /// #     fcs_length: FcsLength::Two,
+    /// #     hardware_addr: 1,
+    /// #     pan_id: 0x1234,
+    /// #     implicit_broadcast: false,
+    /// #     ack_buffer: 0,
+    /// #     spare_buffer: 1,
+    /// # };
+    /// let pool: &'static mut Pool<3> = Box::leak(Box::default());
+    /// let (mut service, _) = DriverService::start(settings, pool)?;
+    /// service.put_frame(2, &[0x61, 0x88, 7]);
+    /// let pool: &'static mut Pool<3> = service.into_pool();
+    /// assert_eq!(pool.buffer(2).map(|buffer| buffer[4]), Some(7));
+    /// let (again, first) = DriverService::start(settings, pool)?;
+    /// assert_eq!((first.action, again.waiting().count()), (Action::ReceiveRequest, 0));
+    /// # Ok::<(), Error>(())
+    /// ```
+    pub fn into_pool(self) -> &'p mut Pool<N> {
+        self.pool.into_inner()
     }
 
     fn call(&mut self, function: impl FnOnce(Slices<'_>) -> u8) -> Result<Reply, Error> {
@@ -319,6 +357,7 @@ mod tests {
     use super::*;
     use crate::*;
     use std::boxed::Box;
+    use std::vec::Vec;
 
     const SETTINGS: Settings = Settings {
         headroom: 2,
@@ -456,6 +495,44 @@ mod tests {
         let moved = Box::new(service);
         assert_eq!(moved.buffer_ptr(2).map(|pointer| pointer.as_ptr().cast_const()), places[2]);
         assert_eq!(moved.buffer(2).map(|buffer| buffer[143]), Some(143));
+    }
+
+    // From its arrival to its answer or withdrawal, and the service's own two from start on.
+    #[test]
+    fn buffers_are_held_until_they_are_given_back() {
+        let (mut service, _) = DriverService::start(SETTINGS, pool::<8>()).expect("accepted");
+        let held = |service: &DriverService<'_, 8>| (0..=255).filter(|buffer| service.is_held(*buffer)).collect::<Vec<u8>>();
+        assert_eq!(held(&service), [0, 3]);
+        service
+            .arrive(tx(1, Timestamp::BestEffort, 5, 12, true))
+            .expect("the line is empty");
+        service.arrive(rx(2, 7)).expect("it has room");
+        assert_eq!(held(&service), [0, 3, 5, 7]);
+        service.request().expect("it takes the first");
+        assert_eq!(held(&service), [0, 3, 5, 7], "the radio is to enter its task");
+        service.withdraw(2).expect("it waits");
+        assert_eq!(held(&service), [0, 3, 5]);
+        let (result, cause) = (TaskResult::Off, Cause::Task);
+        service.fallback(result, cause).expect("it cannot be sent");
+        assert_eq!(held(&service), [0, 3], "it is answered");
+    }
+
+    // Two loans of one pool, one after the other: it comes back for as long as it was lent, in its place, with what was written in it.
+    #[test]
+    fn the_pool_comes_back_and_is_lent_again() {
+        let lent = pool::<4>();
+        let place = core::ptr::from_ref(lent);
+        let (mut service, _) = DriverService::start(SETTINGS, lent).expect("accepted");
+        service.put_frame(2, &[1, 2, 3]);
+        service.arrive(rx(9, 1)).expect("the line is empty");
+        let returned: &'static mut Pool<4> = service.into_pool();
+        assert_eq!(core::ptr::from_ref(returned), place);
+        assert_eq!(returned.buffer(2).map(|b| &b[..6]), Some(&[0, 0, 1, 2, 3, 0][..]));
+        returned.buffer_mut(3).expect("it is there").fill(0xff);
+        let (mut again, _) = DriverService::start(SETTINGS, returned).expect("accepted");
+        assert_eq!(again.frame(3).map(|f| &f[..4]), Some(&[2, 0x10, 0, 0xff][..]));
+        assert_eq!(again.waiting().count(), 0);
+        assert!(taken(&mut again, rx(9, 1)).is_ok());
     }
 
     // What a radio writes through a buffer's pointer is what the next call and the host read there, and the other way round.

@@ -240,6 +240,30 @@ pub trait Host {
     }
 }
 
+impl<R: Radio + ?Sized> Radio for &mut R {
+    fn begin(&mut self, task: RadioTask, buffers: &mut dyn Buffers) -> Option<RadioEvent> {
+        R::begin(self, task, buffers)
+    }
+}
+
+impl<H: Host + ?Sized> Host for &mut H {
+    fn next_request(&mut self, buffers: &mut dyn Buffers) -> Option<Request> {
+        H::next_request(self, buffers)
+    }
+
+    fn answered(&mut self, answer: Answer, buffers: &dyn Buffers) {
+        H::answered(self, answer, buffers);
+    }
+
+    fn refused(&mut self, request: Request, refusal: Refusal) {
+        H::refused(self, request, refusal);
+    }
+
+    fn made(&mut self, call: &Call, result: &Result<Reply, Error>, service: &dyn Service) {
+        H::made(self, call, result, service);
+    }
+}
+
 /// A service with its radio and its host, and the loop between them.
 ///
 /// The radio tells what its task came to (`told`). The loop makes that call and gives its answers to the host, makes the host's calls
@@ -480,6 +504,13 @@ impl<S: Service, R: Radio, H: Host> Station<S, R, H> {
     /// The host with the buffers, to give it something new.
     pub fn host_mut(&mut self) -> (&mut H, &mut dyn Buffers) {
         (&mut self.host, &mut self.service)
+    }
+
+    /// Its three parts, as when the radio is to be reset. Nothing is told, and the radio does what it does: it is stopped before the
+    /// pool is taken back (`DriverService::into_pool`). Where service and radio are to go on instead, `new` takes them with the
+    /// action that `action` gave before, and the radio begins its part again.
+    pub fn into_parts(self) -> (S, R, H) {
+        (self.service, self.radio, self.host)
     }
 
     /// One call, with its answers given to the host. A call on the line has no action, so the last one stands.

@@ -18,7 +18,7 @@ mod linux {
     use crate::common::library::{call_on, Slices};
     use crate::common::pages::{Pages, Rights};
     use crate::common::random::Rng;
-    use crate::common::run::{fail, Opening, Run, Step};
+    use crate::common::run::{fail, held, Opening, Run, Step};
     use crate::common::safe;
     use crate::common::{choose, crossing, divisor, reached::every_wait, rounds, seed};
     use crate::model::bytes::write_reply;
@@ -357,6 +357,9 @@ mod linux {
         assert_eq!((state, line), (run.pair.state(), run.pair.line()));
         assert_eq!(service.wait(), Some(crossing::wait(&run.read.0.wait)));
         assert_eq!(service.waiting().count(), run.read.1 .0.len());
+        assert!((0..=255)
+            .filter(|buffer| service.is_held(*buffer))
+            .eq(held(&run.read.0, &run.read.1)));
         assert!(service.buffer_ptr(7).is_some() && service.settings().headroom == run.opening.start.headroom);
         assert!(format!("{service:?}").contains("buffers: 8"));
     }

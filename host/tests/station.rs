@@ -628,6 +628,16 @@ fn withdraws(station: &mut Tested, rng: &mut Rng) {
     seen_to(station.host_has_more());
 }
 
+/// Taken apart and put together again while the radio has nothing to do.
+fn anew(station: Tested) -> Tested {
+    if station.radio().task.is_some() {
+        return station;
+    }
+    let action = station.action();
+    let (service, radio, host) = station.into_parts();
+    Station::new(service, action, radio, host)
+}
+
 fn run(seed: u64, common: Shared) {
     let mut station = station(seed, common);
     let mut rng = Rng::new(!seed);
@@ -640,6 +650,7 @@ fn run(seed: u64, common: Shared) {
             _ => withdraws(&mut station, &mut rng),
         }
         check_rest(&station);
+        station = anew(station);
     }
 }
 
@@ -794,6 +805,89 @@ fn a_host_that_is_always_wrong_is_left() {
     let mut station = start(31).expect("the settings are in range");
     assert_eq!(station.host_has_more(), Ok(()));
     assert!(matches!(station.action(), Action::Rx { buffer: 2, .. }));
+}
+
+// ---- Parts that are lent, taken back and lent again
+
+type Notes = Rc<RefCell<Vec<&'static str>>>;
+
+/// A radio and a host that note which of their methods are called.
+struct Noting(Notes);
+
+impl Radio for Noting {
+    fn begin(&mut self, _: RadioTask, _: &mut dyn Buffers) -> Option<RadioEvent> {
+        self.0.borrow_mut().push("begin");
+        None
+    }
+}
+
+struct NotingHost(Notes, Vec<Request>);
+
+impl Host for NotingHost {
+    fn next_request(&mut self, _: &mut dyn Buffers) -> Option<Request> {
+        self.0.borrow_mut().push("next_request");
+        self.1.pop()
+    }
+
+    fn answered(&mut self, _: Answer, _: &dyn Buffers) {
+        self.0.borrow_mut().push("answered");
+    }
+
+    fn refused(&mut self, _: Request, _: Refusal) {
+        self.0.borrow_mut().push("refused");
+    }
+
+    fn made(&mut self, _: &Call, _: &Result<Reply, Error>, _: &dyn Service) {
+        self.0.borrow_mut().push("made");
+    }
+}
+
+/// A request for the ACK buffer, one for another, and a radio that cannot send: on this pool, which is given back.
+fn noted<R: Radio, H: Host>(pool: &'static mut Pool<BUFFERS>, radio: R, host: H) -> &'static mut Pool<BUFFERS> {
+    let mut station = Station::start(SETTINGS, pool, radio, host).expect("the settings are in range");
+    assert_eq!(station.host_has_more(), Ok(()));
+    let (result, cause) = (TaskResult::Off, Cause::Task);
+    assert_eq!(station.told(RadioEvent::Fallback { result, cause }), Ok(()));
+    assert_eq!(station.action(), Action::ReceiveRequest);
+    station.into_parts().0.into_pool()
+}
+
+// What a station calls of a lent radio and host, by their types or as trait objects, are their own methods, each as often as those of
+// parts that it owns.
+#[test]
+fn lent_parts_are_called_themselves() {
+    let notes = Notes::default();
+    let request = |buffer| Request {
+        token: 1,
+        start: Timestamp::BestEffort,
+        buffer,
+        task: Task::Tx { length: 3, cca: false },
+    };
+    let requests = || vec![request(2), request(ACK)];
+    let (mut radio, mut host) = (Noting(notes.clone()), NotingHost(notes.clone(), requests()));
+    let mut pool = Box::leak(Box::<Pool<BUFFERS>>::default());
+    let expected = [
+        "next_request",
+        "made",
+        "refused",
+        "next_request",
+        "made",
+        "next_request",
+        "made",
+        "begin",
+        "next_request",
+        "made",
+        "answered",
+        "next_request",
+    ];
+    pool = noted(pool, &mut radio, &mut host);
+    assert_eq!(notes.take(), expected);
+    host.1 = requests();
+    pool = noted(pool, &mut radio as &mut dyn Radio, &mut host as &mut dyn Host);
+    assert_eq!(notes.take(), expected);
+    host.1 = requests();
+    noted(pool, radio, host);
+    assert_eq!(notes.take(), expected);
 }
 
 // ---- Async code

@@ -48,6 +48,15 @@ impl Clone for Beside {
     }
 }
 
+/// The buffers that are held, as state and line have them, sorted.
+pub fn held(state: &State, line: &Line) -> Vec<u8> {
+    let mut held: Vec<u8> = state.wait.open().iter().flatten().map(|open| open.1).collect();
+    held.extend([state.settings.ack, state.settings.spare]);
+    held.extend(line.0.iter().map(|request| request.buffer()));
+    held.sort_unstable();
+    held
+}
+
 /// State and line as the model reads them.
 fn read(pair: &Pair) -> Result<(State, Line), String> {
     let state = read_state(pair.state()).ok_or("the state is not valid")?;
@@ -154,6 +163,7 @@ impl Run {
             reply: self.pair.reply(),
             pool: self.pair.pool(),
             read: &self.read,
+            held: &self.book.says().2,
         };
         safe.call(raw, &after)
     }
@@ -173,11 +183,8 @@ impl Run {
         debug_assert_eq!(codes(&state.wait), self.codes());
         let open = state.wait.open();
         let mut tokens: Vec<u32> = open.iter().flatten().map(|open| open.0).collect();
-        let mut held: Vec<u8> = open.iter().flatten().map(|open| open.1).collect();
-        held.extend([state.settings.ack, state.settings.spare]);
-        held.extend(line.0.iter().map(|request| request.buffer()));
         tokens.sort_unstable();
-        held.sort_unstable();
+        let held = held(state, line);
         let (waiting, unanswered, book_held) = self.book.says();
         match (&line.0, &tokens, &held) == (&waiting, &unanswered, &book_held) {
             true => Ok(()),

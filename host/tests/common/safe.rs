@@ -1,6 +1,6 @@
 //! The safe types beside the C functions: a `DriverService` that is started as a run is, on a pool of the same bytes, and makes the
 //! same calls.
-use super::crossing;
+use super::{crossing, run};
 use crate::model::bytes::write_reply;
 use crate::model::calls::{Raw, RawStart};
 use crate::model::engine::State;
@@ -52,6 +52,7 @@ trait Service {
     fn slices(&self) -> [&[u8]; 3];
     fn wait(&self) -> Option<Wait>;
     fn waiting(&self) -> Vec<Request>;
+    fn is_held(&self, buffer: u8) -> bool;
     fn received(&self, answer: &Answer) -> Option<Received<'_>>;
     /// A buffer whole, and its frame.
     fn buffer(&self, buffer: u8) -> Option<(&[u8], &[u8])>;
@@ -124,6 +125,10 @@ impl<const N: usize> Service for Lent<N> {
         self.get().waiting().collect()
     }
 
+    fn is_held(&self, buffer: u8) -> bool {
+        self.get().is_held(buffer)
+    }
+
     fn received(&self, answer: &Answer) -> Option<Received<'_>> {
         self.get().received(answer)
     }
@@ -186,6 +191,8 @@ pub struct After<'a> {
     pub reply: &'a [u8],
     pub pool: &'a [u8],
     pub read: &'a (State, Line),
+    /// The held buffers by the book, sorted.
+    pub held: &'a [u8],
 }
 
 impl Safe {
@@ -240,6 +247,12 @@ impl Safe {
         if !waiting.iter().copied().eq(line.0.iter().map(crossing::request)) {
             return Err(format!("safe types: {waiting:?} wait, but {:?} do", line.0));
         }
+        // Those of the pool and the first that it does not have.
+        let held: Vec<u8> = (0..=state.settings.count)
+            .filter(|buffer| self.service.is_held(*buffer))
+            .collect();
+        same("held buffers", &held, &run::held(state, line))?;
+        same("held buffers by the book", &held[..], after.held)?;
         let buffer = (self.made % 256) as u8;
         let at = 144 * usize::from(buffer);
         let frame = at + usize::from(state.settings.headroom);

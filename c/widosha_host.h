@@ -6,7 +6,8 @@
  * driver_c. c/weighing.c is an example. Zero the struct before its first start, as `static struct widosha_host host;` does.
  *
  * A wrapper returns what the function returns, 0 or the number of the refusal. After a refusal state, line, pool and the
- * action are as before, and the reply is empty.
+ * action are as before, and the reply is empty. gcc and clang warn where what a wrapper returns is dropped, and, with -Wextra, where a
+ * code of another family is passed, as an outcome for a result; in C++ this is an error.
  *
  * One call at a time, and its answers are read before the next call: every call writes the reply anew, so after an arrival, a
  * withdrawal or a refused call the answers of the call before are gone, and an answer that is not read is given by no later call. So a
@@ -55,6 +56,15 @@
 #endif
 #endif
 
+/* Before a function whose result says whether the call was accepted. */
+#ifndef WIDOSHA_MUST_USE
+#if defined(__GNUC__)
+#define WIDOSHA_MUST_USE __attribute__((warn_unused_result))
+#else
+#define WIDOSHA_MUST_USE
+#endif
+#endif
+
 /* The bytes of a reply's action. */
 #define WIDOSHA_HOST_ACTION_LENGTH 12
 
@@ -83,8 +93,8 @@ struct widosha_host_settings {
 /* The numbers of widosha_arrive. */
 struct widosha_host_arrival {
     uint32_t token;
-    uint8_t direction; /* WIDOSHA_DIRECTION_ */
-    uint8_t start; /* WIDOSHA_START_ */
+    enum widosha_direction direction;
+    enum widosha_start_code start;
     uint64_t time;
     uint8_t buffer;
     uint16_t length;
@@ -171,7 +181,7 @@ static inline uint8_t widosha_host_called(struct widosha_host *host, uint8_t ref
 
 /* The pool is lent from an accepted start on: `uint8_t pool[3][WIDOSHA_BUFFER_LENGTH]` has three buffers. Nothing finds a count that
  * is more than the pool has. */
-static inline uint8_t widosha_host_start(
+WIDOSHA_MUST_USE static inline uint8_t widosha_host_start(
     struct widosha_host *host, const struct widosha_host_settings *settings, uint8_t (*pool)[WIDOSHA_BUFFER_LENGTH], uint8_t count)
 {
     uint8_t *bytes = (uint8_t *)pool;
@@ -186,68 +196,70 @@ static inline uint8_t widosha_host_start(
     return widosha_host_called(host, refusal);
 }
 
-static inline uint8_t widosha_host_arrive(struct widosha_host *host, const struct widosha_host_arrival *arrival)
+WIDOSHA_MUST_USE static inline uint8_t widosha_host_arrive(struct widosha_host *host, const struct widosha_host_arrival *arrival)
 {
     return widosha_host_called(
         host,
         widosha_arrive(
-            arrival->token, arrival->direction, arrival->start, arrival->time, arrival->buffer, arrival->length, arrival->cca,
-            WIDOSHA_HOST_SLICES(host)));
+            arrival->token, (uint8_t)arrival->direction, (uint8_t)arrival->start, arrival->time, arrival->buffer, arrival->length,
+            arrival->cca, WIDOSHA_HOST_SLICES(host)));
 }
 
-static inline uint8_t widosha_host_withdraw(struct widosha_host *host, uint32_t token)
+WIDOSHA_MUST_USE static inline uint8_t widosha_host_withdraw(struct widosha_host *host, uint32_t token)
 {
     return widosha_host_called(host, widosha_withdraw(token, WIDOSHA_HOST_SLICES(host)));
 }
 
-static inline uint8_t widosha_host_request(struct widosha_host *host)
+WIDOSHA_MUST_USE static inline uint8_t widosha_host_request(struct widosha_host *host)
 {
     return widosha_host_called(host, widosha_request(WIDOSHA_HOST_SLICES(host)));
 }
 
-static inline uint8_t widosha_host_none(struct widosha_host *host)
+WIDOSHA_MUST_USE static inline uint8_t widosha_host_none(struct widosha_host *host)
 {
     return widosha_host_called(host, widosha_none(WIDOSHA_HOST_SLICES(host)));
 }
 
-static inline uint8_t widosha_host_frame_start(struct widosha_host *host)
+WIDOSHA_MUST_USE static inline uint8_t widosha_host_frame_start(struct widosha_host *host)
 {
     return widosha_host_called(host, widosha_frame_start(WIDOSHA_HOST_SLICES(host)));
 }
 
-static inline uint8_t widosha_host_outbound_seen(struct widosha_host *host, uint8_t start, uint64_t time, uint8_t cca)
+WIDOSHA_MUST_USE static inline uint8_t widosha_host_outbound_seen(
+    struct widosha_host *host, enum widosha_start_code start, uint64_t time, uint8_t cca)
 {
-    return widosha_host_called(host, widosha_outbound_seen(start, time, cca, WIDOSHA_HOST_SLICES(host)));
+    return widosha_host_called(host, widosha_outbound_seen((uint8_t)start, time, cca, WIDOSHA_HOST_SLICES(host)));
 }
 
-static inline uint8_t widosha_host_stopped(
-    struct widosha_host *host, uint8_t outcome, uint16_t length, uint64_t time, uint8_t quality)
+WIDOSHA_MUST_USE static inline uint8_t widosha_host_stopped(
+    struct widosha_host *host, enum widosha_stop_outcome outcome, uint16_t length, uint64_t time, uint8_t quality)
 {
-    return widosha_host_called(host, widosha_stopped(outcome, length, time, quality, WIDOSHA_HOST_SLICES(host)));
+    return widosha_host_called(host, widosha_stopped((uint8_t)outcome, length, time, quality, WIDOSHA_HOST_SLICES(host)));
 }
 
-static inline uint8_t widosha_host_header(struct widosha_host *host, uint16_t arrived, uint16_t length)
+WIDOSHA_MUST_USE static inline uint8_t widosha_host_header(struct widosha_host *host, uint16_t arrived, uint16_t length)
 {
     WIDOSHA_FENCE();
     return widosha_host_called(host, widosha_header(arrived, length, WIDOSHA_HOST_SLICES(host)));
 }
 
-static inline uint8_t widosha_host_entered(
-    struct widosha_host *host, uint8_t result, uint16_t length, uint64_t time, uint64_t entry, uint8_t quality)
+WIDOSHA_MUST_USE static inline uint8_t widosha_host_entered(
+    struct widosha_host *host, enum widosha_result result, uint16_t length, uint64_t time, uint64_t entry, uint8_t quality)
 {
     WIDOSHA_FENCE();
-    return widosha_host_called(host, widosha_entered(result, length, time, entry, quality, WIDOSHA_HOST_SLICES(host)));
+    return widosha_host_called(host, widosha_entered((uint8_t)result, length, time, entry, quality, WIDOSHA_HOST_SLICES(host)));
 }
 
-static inline uint8_t widosha_host_fallback(
-    struct widosha_host *host, uint8_t result, uint16_t length, uint64_t time, uint8_t cause, uint64_t cause_time, uint8_t quality)
+WIDOSHA_MUST_USE static inline uint8_t widosha_host_fallback(
+    struct widosha_host *host, enum widosha_result result, uint16_t length, uint64_t time, enum widosha_cause cause,
+    uint64_t cause_time, uint8_t quality)
 {
     WIDOSHA_FENCE();
     return widosha_host_called(
-        host, widosha_fallback(result, length, time, cause, cause_time, quality, WIDOSHA_HOST_SLICES(host)));
+        host, widosha_fallback((uint8_t)result, length, time, (uint8_t)cause, cause_time, quality, WIDOSHA_HOST_SLICES(host)));
 }
 
-static inline uint8_t widosha_host_rollback(struct widosha_host *host)
+WIDOSHA_MUST_USE static inline uint8_t widosha_host_rollback(struct widosha_host *host)
 {
     return widosha_host_called(host, widosha_rollback(WIDOSHA_HOST_SLICES(host)));
 }

@@ -2,8 +2,8 @@
 # The C side: c/weighing.c is compiled with every C compiler that is there, as C++ too, with warnings as errors, linked with the proved
 # library and run; it prints what c/weighing.expected says, in which each line has its reason. So is a host of two translation units that
 # meets every refusal (tests/c/exchanges.c, second.c). c/widosha_host.h is compiled over functions that record their numbers
-# (tests/c/wrappers.c), and each of a list of wrong changes of it is found. Every name of docs/LAYOUTS.md has its number as the compiler
-# has it. The lines of README.md are compiled and run too.
+# (tests/c/wrappers.c), and each of a list of wrong changes of it is found. A code of another family and a dropped refusal do not compile.
+# Every name of docs/LAYOUTS.md has its number as the compiler has it. The lines of README.md are compiled and run too.
 cd "$(dirname "${BASH_SOURCE[0]}")/.." || exit 2
 library=${WIDOSHA_LIB_DIR:-target/staticlib}/libdriver_c.a
 frames=${WIDOSHA_LIB_DIR:-target/staticlib}/libframe_c.a
@@ -30,7 +30,8 @@ if [ ! -f "$library" ] || [ ! -f "$frames" ]; then
     echo "there is no $library or no $frames: tools/staticlib.sh driver_c frame_c builds them"
     exit 1
 fi
-mkdir -p "$out"
+mkdir -p "$out/changed"
+rm -f "$out"/*.h
 failed() {
     echo "$@"
     exit 1
@@ -66,6 +67,54 @@ numbers=$(grep -c typedef "$out/numbers.c")
 ${compilers[0]} "${flags[@]}" -fsyntax-only "$out/numbers.c" || failed "a name has another number than docs/LAYOUTS.md says"
 echo "$numbers names have the numbers of docs/LAYOUTS.md"
 
+# What does not compile under these flags: a refusal that is dropped, and a code of another family. Each line compiles as it stands; with
+# the call alone, or with the words behind the bar for those before it, it does not, and the compiler says why.
+program() {
+    printf '#include "widosha_host.h"\nstatic struct widosha_host host;\nstatic struct widosha_host_settings settings;\n'
+    printf 'static uint8_t pool[3][WIDOSHA_BUFFER_LENGTH];\nint main(void)\n{\n'
+    printf '    struct widosha_host_arrival arrival = {0, WIDOSHA_DIRECTION_RX, WIDOSHA_START_AT, 0, 0, 0, 0};\n'
+    printf '    (void)host, (void)settings, (void)pool, (void)arrival;\n    %s\n    return 0;\n}\n' "$1"
+}
+# Code is made, as gcc looks for dropped results only then.
+compiles() {
+    program "$1" >"$out/misuse.c"
+    $compiler "${flags[@]}" -Ic -S "$out/misuse.c" -o "$out/misuse.s" 2>"$out/said"
+}
+is_seen() {
+    ! compiles "$1" || failed "compiles, and should not: $1: $compiler"
+    grep -qE "$2" "$out/said" || failed "does not compile, but for another reason: $1: $compiler"
+    seen=$((seen + 1))
+}
+for compiler in "${compilers[@]}"; do
+    seen=0
+    while IFS='|' read -r call right wrong; do
+        compiles "if ($call != 0) return 1;" || failed "does not compile: $call: $compiler: $(cat "$out/said")"
+        is_seen "$call;" 'ignoring return value'
+        [ -z "$right" ] || is_seen "if (${call/$right/$wrong} != 0) return 1;" "enum-conversion|cannot convert"
+    done <<'CALLS'
+widosha_host_start(&host, &settings, pool, 3)
+widosha_host_arrive(&host, &arrival)
+widosha_host_withdraw(&host, 1)
+widosha_host_request(&host)
+widosha_host_none(&host)
+widosha_host_frame_start(&host)
+widosha_host_outbound_seen(&host, WIDOSHA_START_AT, 9, 0)|START_AT|DIRECTION_RX
+widosha_host_stopped(&host, WIDOSHA_OUTCOME_FRAME, 1, 2, 3)|OUTCOME|RESULT
+widosha_host_header(&host, 9, 14)
+widosha_host_entered(&host, WIDOSHA_RESULT_FRAME, 1, 2, 3, 4)|RESULT|OUTCOME
+widosha_host_fallback(&host, WIDOSHA_RESULT_FRAME, 1, 2, WIDOSHA_CAUSE_TASK, 3, 4)|RESULT|OUTCOME
+widosha_host_fallback(&host, WIDOSHA_RESULT_OFF, 1, 2, WIDOSHA_CAUSE_SCHEDULING_AT, 3, 4)|CAUSE_SCHEDULING_AT|START_AT
+widosha_host_rollback(&host)
+CALLS
+    for each in direction:DIRECTION_TX:START_AT start:START_AT:DIRECTION_RX; do
+        IFS=: read -r field right wrong <<<"$each"
+        compiles "arrival.$field = WIDOSHA_$right;" || failed "a code of its family is no $field: $compiler"
+        is_seen "arrival.$field = WIDOSHA_$wrong;" "enum-conversion|cannot convert"
+    done
+    [ "$seen" -eq 20 ] || failed "$seen wrong uses tried"
+    echo "each of $seen wrong uses of c/widosha_host.h does not compile: $compiler"
+done
+
 # README.md's lines, in a program that has what they take for granted.
 {
     cat <<'BEFORE'
@@ -94,26 +143,29 @@ for compiler in "${compilers[@]}"; do
     echo "c/widosha_host.h passes and reads all that it should: $compiler"
 done
 
-# Each change makes the helper wrong in one place; it has to compile, and tests/c/wrappers.c has to find it.
+# Each change makes the helper wrong in one place; it has to compile, and tests/c/wrappers.c has to find it. What is changed has a folder
+# of its own, as a program takes the header that lies beside it.
 found=0
 while IFS= read -r change; do
-    sed "$change" c/widosha_host.h >"$out/widosha_host.h"
-    ! cmp -s c/widosha_host.h "$out/widosha_host.h" || failed "changes nothing: $change"
-    ${compilers[0]} -Iinclude -I"$out" tests/c/wrappers.c -o "$out/changed" || failed "does not compile: $change"
-    ! "$out/changed" >"$out/said" || failed "not found: $change"
+    sed "$change" c/widosha_host.h >"$out/changed/widosha_host.h"
+    ! cmp -s c/widosha_host.h "$out/changed/widosha_host.h" || failed "changes nothing: $change"
+    ${compilers[0]} -Iinclude -I"$out/changed" tests/c/wrappers.c -o "$out/changed/wrappers" || failed "does not compile: $change"
+    ! "$out/changed/wrappers" >"$out/said" || failed "not found: $change"
     found=$((found + 1))
 done <<'CHANGES'
 s/widosha_abi_version() ==/widosha_abi_version() >=/
-s/result, length, time, entry, quality, W/result, length, entry, time, quality, W/
-s/result, length, time, cause, cause_time, quality, W/result, length, cause_time, cause, time, quality, W/
-s/arrival->start, arrival->time/arrival->direction, arrival->time/
+s/(uint8_t)result, length, time, entry, quality, W/(uint8_t)result, length, entry, time, quality, W/
+s/length, time, (uint8_t)cause, cause_time, quality, W/length, cause_time, (uint8_t)cause, time, quality, W/
+s/(uint8_t)arrival->start, arrival->time/(uint8_t)arrival->direction, arrival->time/
+s/(uint8_t)outcome, length/(uint8_t)(outcome \& 3), length/
+s/(uint8_t)cause, /(uint8_t)(cause \& 1), /
 s/settings->ack_buffer, settings->spare_buffer/settings->spare_buffer, settings->ack_buffer/
 s/widosha_none(WIDOSHA/widosha_request(WIDOSHA/
 s/(host)->count \* WIDOSHA_BUFFER_LENGTH/(host)->count * 128/
 s/    WIDOSHA_FENCE();//
-/^static inline uint8_t widosha_host_fallback/,/^}/s/WIDOSHA_FENCE();//
-/^static inline uint8_t widosha_host_header/,/^}/s/WIDOSHA_FENCE();//
-/^static inline uint8_t widosha_host_entered/,/^}/s/WIDOSHA_FENCE();//
+/static inline uint8_t widosha_host_fallback/,/^}/s/WIDOSHA_FENCE();//
+/static inline uint8_t widosha_host_header/,/^}/s/WIDOSHA_FENCE();//
+/static inline uint8_t widosha_host_entered/,/^}/s/WIDOSHA_FENCE();//
 s/if (refusal != 0) {/if (refusal > 5) {/
 s/reply\[0\] != WIDOSHA_ACTION_NOTHING/reply[0] <= WIDOSHA_ACTION_OFF/
 s/if (refusal == 0) {/if (refusal <= 9) {/
@@ -136,5 +188,5 @@ s/buffer < host->count/buffer <= host->count/
 s/host->state\[1\]/host->state[2]/
 s/127 - host->state\[3\]/127 - host->state[2]/
 CHANGES
-[ "$found" -ge 32 ] || failed "$found changes tried"
+[ "$found" -ge 34 ] || failed "$found changes tried"
 echo "each of $found changes of c/widosha_host.h is found"

@@ -1,9 +1,10 @@
 #!/usr/bin/env bash
 # The C side: c/weighing.c is compiled with every C compiler that is there, as C++ too, with warnings as errors, linked with the proved
 # library and run; it prints what c/weighing.expected says, in which each line has its reason. So is a host of two translation units that
-# meets every refusal (tests/c/exchanges.c, second.c). c/widosha_host.h is compiled over functions that record their numbers
-# (tests/c/wrappers.c), and each of a list of wrong changes of it is found. A code of another family and a dropped refusal do not compile.
-# Every name of docs/LAYOUTS.md has its number as the compiler has it. The lines of README.md are compiled and run too.
+# meets every refusal (tests/c/exchanges.c, second.c), and one that makes random calls until every wait was met (tests/c/line.c).
+# c/widosha_host.h is compiled over functions that record their numbers (tests/c/wrappers.c), and each of a list of wrong changes of it is
+# found. A code of another family and a dropped refusal do not compile. Every name of docs/LAYOUTS.md has its number as the compiler has
+# it. The lines of README.md are compiled and run too.
 cd "$(dirname "${BASH_SOURCE[0]}")/.." || exit 2
 library=${WIDOSHA_LIB_DIR:-target/staticlib}/libdriver_c.a
 frames=${WIDOSHA_LIB_DIR:-target/staticlib}/libframe_c.a
@@ -54,6 +55,13 @@ for compiler in "${compilers[@]}"; do
         failed "tests/c/exchanges.c does not compile: $compiler"
     "$out/exchanges" || failed "a reply is not what docs/LAYOUTS.md says, or c/widosha_host.h tells it wrongly: $compiler"
     echo "tests/c/exchanges.c meets every refusal, and each reply is as it should be: $compiler"
+done
+
+# What waits and which buffers are held, in every wait, after each of many random calls.
+for compiler in "${compilers[@]}"; do
+    $compiler "${flags[@]}" -O1 -Ic tests/c/line.c -x none "$library" -o "$out/line" || failed "tests/c/line.c does not compile: $compiler"
+    "$out/line" || failed "c/widosha_host.h tells the line or the held buffers wrongly: $compiler"
+    echo "tests/c/line.c meets every wait, and what waits and what is held is as in its books: $compiler"
 done
 
 # The names of docs/LAYOUTS.md with their numbers, as the compiler has them, by themselves and in an expression; tests/40-header.sh reads
@@ -143,14 +151,17 @@ for compiler in "${compilers[@]}"; do
     echo "c/widosha_host.h passes and reads all that it should: $compiler"
 done
 
-# Each change makes the helper wrong in one place; it has to compile, and tests/c/wrappers.c has to find it. What is changed has a folder
-# of its own, as a program takes the header that lies beside it.
+# Each change makes the helper wrong in one place; it has to compile, and tests/c/wrappers.c or tests/c/line.c has to find it. What is
+# changed has a folder of its own, as a program takes the header that lies beside it.
+finds() {
+    ${compilers[0]} -Iinclude -I"$out/changed" "tests/c/$1.c" ${2:+"$2"} -o "$out/changed/$1" || failed "does not compile: $change"
+    ! timeout 60 "$out/changed/$1" >"$out/said"
+}
 found=0
 while IFS= read -r change; do
     sed "$change" c/widosha_host.h >"$out/changed/widosha_host.h"
     ! cmp -s c/widosha_host.h "$out/changed/widosha_host.h" || failed "changes nothing: $change"
-    ${compilers[0]} -Iinclude -I"$out/changed" tests/c/wrappers.c -o "$out/changed/wrappers" || failed "does not compile: $change"
-    ! "$out/changed/wrappers" >"$out/said" || failed "not found: $change"
+    finds wrappers || finds line "$library" || failed "not found: $change"
     found=$((found + 1))
 done <<'CHANGES'
 s/widosha_abi_version() ==/widosha_abi_version() >=/
@@ -187,6 +198,28 @@ s/bytes + 7, 8/bytes + 8, 8/
 s/buffer < host->count/buffer <= host->count/
 s/host->state\[1\]/host->state[2]/
 s/127 - host->state\[3\]/127 - host->state[2]/
+s/host->line\[waiting \* WIDOSHA_HOST_RECORD_LENGTH\] != 0/host->line[waiting * WIDOSHA_HOST_RECORD_LENGTH] == 1/
+s/waiting < WIDOSHA_LINE_LENGTH \/ WIDOSHA_HOST_RECORD_LENGTH/waiting < 3/
+s/(record + 4, 4)/(record + 4, 3)/
+s/record\[0\] == 1/record[0] != 1/
+s/(enum widosha_start_code)record\[1\]/(enum widosha_start_code)record[2]/
+s/(record + 8, 8)/(record + 8, 7)/
+s/= record\[3\]/= record[5]/
+s/(record + 16, 2)/(record + 15, 2)/
+s/arrival.cca = record\[2\]/arrival.cca = record[1]/
+s/for (place = 0; place < waiting; place++) {/for (place = waiting; place-- > 0;) {/
+s/(host, tx.start, tx.time, tx.cca)/(host, tx.start, tx.time, 1)/
+s/(host, tx.start, tx.time, tx.cca)/(host, tx.start, 0, tx.cca)/
+s/host->state\[18\] != 0 && host->state\[18\] != 5/host->state[18] != 0/
+s/host->state\[18\] != 0 && host->state\[18\] != 5/host->state[18] != 5/
+s/host->state\[18\] != 0 && host->state\[18\] != 3/host->state[18] != 0/
+s/host->state\[18\] != 0 && host->state\[18\] != 3/host->state[18] != 3/
+s/buffer == host->state\[15\] || //
+s/buffer == host->state\[16\] || //
+s/buffer == host->state\[24\]/buffer == host->state[23]/
+s/host->state\[19\] != 0 && buffer/buffer/
+s/host->state\[19\] != 0/host->state[19] == 3/
+s/(host, place).buffer == buffer/(host, place).buffer == buffer + 1/
 CHANGES
-[ "$found" -ge 34 ] || failed "$found changes tried"
+[ "$found" -ge 56 ] || failed "$found changes tried"
 echo "each of $found changes of c/widosha_host.h is found"

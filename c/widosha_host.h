@@ -68,7 +68,7 @@
 
 /* The bytes of a reply's action, and of one request in the line. */
 #define WIDOSHA_HOST_ACTION_LENGTH 12
-#define WIDOSHA_HOST_RECORD_LENGTH 24
+#define WIDOSHA_HOST_RECORD_LENGTH (WIDOSHA_LINE_LENGTH / WIDOSHA_LINE_CAPACITY)
 
 /* One station. */
 struct widosha_host {
@@ -344,7 +344,7 @@ static inline struct widosha_host_answer widosha_host_answer_at(const struct wid
 static inline unsigned widosha_host_waiting(const struct widosha_host *host)
 {
     unsigned waiting = 0;
-    while (waiting < WIDOSHA_LINE_LENGTH / WIDOSHA_HOST_RECORD_LENGTH && host->line[waiting * WIDOSHA_HOST_RECORD_LENGTH] != 0)
+    while (waiting < WIDOSHA_LINE_CAPACITY && host->line[waiting * WIDOSHA_HOST_RECORD_LENGTH] != 0)
         waiting++;
     return waiting;
 }
@@ -429,7 +429,7 @@ static inline uint8_t *widosha_host_frame(const struct widosha_host *host, uint8
 /* The longest frame without checksum. After an accepted start. */
 static inline uint8_t widosha_host_longest(const struct widosha_host *host)
 {
-    return (uint8_t)(127 - host->state[3]);
+    return (uint8_t)(WIDOSHA_FRAME_LENGTH - host->state[3]);
 }
 
 #endif

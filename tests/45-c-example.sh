@@ -71,7 +71,7 @@ done
     sed -nE 's/^\| ([a-z_, ]*\| )?([0-9]+) \|.* `(WIDOSHA_[A-Z_]+)` \|$/typedef char is_\3[(\3) * 3 == \2 * 3 \&\& 3 * \3 == 3 * \2 ? 1 : -1];/p' docs/LAYOUTS.md
 } >"$out/numbers.c"
 numbers=$(grep -c typedef "$out/numbers.c")
-[ "$numbers" -ge 72 ] || failed "docs/LAYOUTS.md names $numbers numbers"
+[ "$numbers" -ge 78 ] || failed "docs/LAYOUTS.md names $numbers numbers"
 ${compilers[0]} "${flags[@]}" -fsyntax-only "$out/numbers.c" || failed "a name has another number than docs/LAYOUTS.md says"
 echo "$numbers names have the numbers of docs/LAYOUTS.md"
 
@@ -197,9 +197,9 @@ s/bytes\[15\]/bytes[16]/
 s/bytes + 7, 8/bytes + 8, 8/
 s/buffer < host->count/buffer <= host->count/
 s/host->state\[1\]/host->state[2]/
-s/127 - host->state\[3\]/127 - host->state[2]/
+s/FRAME_LENGTH - host->state\[3\]/FRAME_LENGTH - host->state[2]/
 s/host->line\[waiting \* WIDOSHA_HOST_RECORD_LENGTH\] != 0/host->line[waiting * WIDOSHA_HOST_RECORD_LENGTH] == 1/
-s/waiting < WIDOSHA_LINE_LENGTH \/ WIDOSHA_HOST_RECORD_LENGTH/waiting < 3/
+s/waiting < WIDOSHA_LINE_CAPACITY/waiting < 3/
 s/(record + 4, 4)/(record + 4, 3)/
 s/record\[0\] == 1/record[0] != 1/
 s/(enum widosha_start_code)record\[1\]/(enum widosha_start_code)record[2]/

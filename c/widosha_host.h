@@ -4,6 +4,7 @@
  *
  * It includes widosha.h (folder include), which says what each call, action, answer and refusal is, and needs the library
  * driver_c. c/weighing.c is an example. Zero the struct before its first start, as `static struct widosha_host host;` does.
+ * c/widosha_loop.h has the loop between a radio, the service and a host over it, and c/hub.c is an example of that.
  *
  * A wrapper returns what the function returns, 0 or the number of the refusal. After a refusal state, line, pool and the
  * action are as before, and the reply is empty. gcc and clang warn where what a wrapper returns is dropped, and, with -Wextra, where a

@@ -1,10 +1,10 @@
 #!/usr/bin/env bash
-# The C side: c/weighing.c is compiled with every C compiler that is there, as C++ too, with warnings as errors, linked with the proved
-# library and run; it prints what c/weighing.expected says, in which each line has its reason. So is a host of two translation units that
-# meets every refusal (tests/c/exchanges.c, second.c), and one that makes random calls until every wait was met (tests/c/line.c).
-# c/widosha_host.h is compiled over functions that record their numbers (tests/c/wrappers.c), and each of a list of wrong changes of it is
-# found. A code of another family and a dropped refusal do not compile. Every name of docs/LAYOUTS.md has its number as the compiler has
-# it. The lines of README.md are compiled and run too.
+# The C side: c/weighing.c and c/hub.c are compiled with every C compiler that is there, as C++ too, with warnings as errors, linked with
+# the proved library and run; each prints what its file of expected lines says, in which each line has its reason. So is a host of two
+# translation units that meets every refusal (tests/c/exchanges.c, second.c), and one that makes random calls until every wait was met
+# (tests/c/line.c). c/widosha_host.h is compiled over functions that record their numbers (tests/c/wrappers.c). Each of a list of wrong
+# changes of c/widosha_host.h and c/widosha_loop.h is found. A code of another family and a dropped refusal do not compile. Every name of
+# docs/LAYOUTS.md has its number as the compiler has it. The lines of README.md are compiled and run too.
 cd "$(dirname "${BASH_SOURCE[0]}")/.." || exit 2
 library=${WIDOSHA_LIB_DIR:-target/staticlib}/libdriver_c.a
 frames=${WIDOSHA_LIB_DIR:-target/staticlib}/libframe_c.a
@@ -38,15 +38,17 @@ failed() {
     exit 1
 }
 
-# What it prints: the lines of the file but for the reasons, which stand above each line.
-awk '/^#/ { reason = 1; next }
-     /./ { if (!reason) { print "no reason stands above: " $0 > "/dev/stderr"; bare = 1 } reason = 0; print }
-     END { exit bare }' c/weighing.expected >"$out/expected" || exit 1
-for compiler in "${compilers[@]}"; do
-    $compiler "${flags[@]}" c/weighing.c -x none "$library" -o "$out/weighing" || failed "c/weighing.c does not compile: $compiler"
-    "$out/weighing" >"$out/printed" || failed "c/weighing.c ended with $?: $compiler"
-    diff "$out/expected" "$out/printed" || failed "c/weighing.c prints something else than c/weighing.expected says"
-    echo "c/weighing.c, by $compiler: $(wc -l <"$out/printed") lines, as expected"
+# What an example prints: the lines of its file but for the reasons, which stand above each line.
+for example in weighing hub; do
+    awk '/^#/ { reason = 1; next }
+         /./ { if (!reason) { print "no reason stands above: " $0 > "/dev/stderr"; bare = 1 } reason = 0; print }
+         END { exit bare }' "c/$example.expected" >"$out/$example.lines" || exit 1
+    for compiler in "${compilers[@]}"; do
+        $compiler "${flags[@]}" "c/$example.c" -x none "$library" -o "$out/$example" || failed "c/$example.c does not compile: $compiler"
+        "$out/$example" >"$out/printed" || failed "c/$example.c ended with $?: $compiler"
+        diff "$out/$example.lines" "$out/printed" || failed "c/$example.c prints something else than c/$example.expected says"
+        echo "c/$example.c, by $compiler: $(wc -l <"$out/printed") lines, as expected"
+    done
 done
 
 # A host that meets every refusal, with both libraries. As C++ it links only if the header says that the functions are C's.
@@ -64,6 +66,13 @@ for compiler in "${compilers[@]}"; do
     echo "tests/c/line.c meets every wait, and what waits and what is held is as in its books: $compiler"
 done
 
+# The loop, where the hub does not lead it.
+for compiler in "${compilers[@]}"; do
+    $compiler "${flags[@]}" -Ic tests/c/loop.c -x none "$library" -o "$out/loop" || failed "tests/c/loop.c does not compile: $compiler"
+    "$out/loop" || failed "c/widosha_loop.h is wrong: $compiler"
+    echo "tests/c/loop.c: c/widosha_loop.h calls its four functions in time: $compiler"
+done
+
 # The names of docs/LAYOUTS.md with their numbers, as the compiler has them, by themselves and in an expression; tests/40-header.sh reads
 # the digits behind a name alone.
 {
@@ -78,10 +87,11 @@ echo "$numbers names have the numbers of docs/LAYOUTS.md"
 # What does not compile under these flags: a refusal that is dropped, and a code of another family. Each line compiles as it stands; with
 # the call alone, or with the words behind the bar for those before it, it does not, and the compiler says why.
 program() {
-    printf '#include "widosha_host.h"\nstatic struct widosha_host host;\nstatic struct widosha_host_settings settings;\n'
+    printf '#include "widosha_loop.h"\nstatic struct widosha_host host;\nstatic struct widosha_host_settings settings;\n'
+    printf 'static struct widosha_loop loop;\nstatic struct widosha_loop_event event;\n'
     printf 'static uint8_t pool[3][WIDOSHA_BUFFER_LENGTH];\nint main(void)\n{\n'
     printf '    struct widosha_host_arrival arrival = {0, WIDOSHA_DIRECTION_RX, WIDOSHA_START_AT, 0, 0, 0, 0};\n'
-    printf '    (void)host, (void)settings, (void)pool, (void)arrival;\n    %s\n    return 0;\n}\n' "$1"
+    printf '    (void)host, (void)settings, (void)loop, (void)event, (void)pool, (void)arrival;\n    %s\n    return 0;\n}\n' "$1"
 }
 # Code is made, as gcc looks for dropped results only then.
 compiles() {
@@ -113,14 +123,17 @@ widosha_host_entered(&host, WIDOSHA_RESULT_FRAME, 1, 2, 3, 4)|RESULT|OUTCOME
 widosha_host_fallback(&host, WIDOSHA_RESULT_FRAME, 1, 2, WIDOSHA_CAUSE_TASK, 3, 4)|RESULT|OUTCOME
 widosha_host_fallback(&host, WIDOSHA_RESULT_OFF, 1, 2, WIDOSHA_CAUSE_SCHEDULING_AT, 3, 4)|CAUSE_SCHEDULING_AT|START_AT
 widosha_host_rollback(&host)
+widosha_host_outbound_seen_earliest(&host)
+widosha_loop_host_has_more(&loop)
+widosha_loop_told(&loop, &event)
 CALLS
     for each in direction:DIRECTION_TX:START_AT start:START_AT:DIRECTION_RX; do
         IFS=: read -r field right wrong <<<"$each"
         compiles "arrival.$field = WIDOSHA_$right;" || failed "a code of its family is no $field: $compiler"
         is_seen "arrival.$field = WIDOSHA_$wrong;" "enum-conversion|cannot convert"
     done
-    [ "$seen" -eq 20 ] || failed "$seen wrong uses tried"
-    echo "each of $seen wrong uses of c/widosha_host.h does not compile: $compiler"
+    [ "$seen" -eq 23 ] || failed "$seen wrong uses tried"
+    echo "each of $seen wrong uses of the two headers of c does not compile: $compiler"
 done
 
 # README.md's lines, in a program that has what they take for granted.
@@ -223,3 +236,42 @@ s/(host, place).buffer == buffer/(host, place).buffer == buffer + 1/
 CHANGES
 [ "$found" -ge 56 ] || failed "$found changes tried"
 echo "each of $found changes of c/widosha_host.h is found"
+
+# So with the loop, by the hub or tests/c/loop.c. One that does not end is ended.
+cp c/hub.c tests/c/loop.c c/widosha_host.h "$out/changed/"
+found=0
+while IFS= read -r change; do
+    sed "$change" c/widosha_loop.h >"$out/changed/widosha_loop.h"
+    ! cmp -s c/widosha_loop.h "$out/changed/widosha_loop.h" || failed "changes nothing: $change"
+    for each in hub loop; do
+        ${compilers[0]} -Iinclude "$out/changed/$each.c" "$library" -o "$out/changed/$each" || failed "does not compile: $change"
+    done
+    timeout 10 "$out/changed/hub" 2>&1 | head -c 100000 >"$out/said"
+    ! { cmp -s "$out/hub.lines" "$out/said" && timeout 10 "$out/changed/loop" >"$out/said"; } || failed "not found: $change"
+    found=$((found + 1))
+done <<'CHANGES'
+s/    loop->begun = 0;//
+s/        loop->begun = 1;//
+s/!loop->begun && //
+s/ && widosha_host_action(loop->host) != WIDOSHA_ACTION_RECEIVE_REQUEST//
+/^static inline uint8_t widosha_loop_made/,/^}/s/which = 0/which = 1/
+s/refusal == WIDOSHA_REFUSAL_NOT_ALLOWED ?/refusal == WIDOSHA_REFUSAL_UNFIT ?/
+s/if (widosha_host_earliest_tx(host, &tx))/if (0)/
+s/if (widosha_host_waiting(host) > 0)/if (widosha_host_waiting(host) > 1)/
+s/while (refusal == 0 && made)/while (0)/
+s/action == WIDOSHA_ACTION_STOP_NOW || action == WIDOSHA_ACTION_STOP_BEFORE/action == WIDOSHA_ACTION_STOP_NOW/
+s/event->kind == WIDOSHA_LOOP_FRAME_START \&\& (action/(action/
+s/: widosha_loop_host_has_more(loop)/: 0/
+s/event->arrived, event->length/event->length, event->arrived/
+s/event->result, event->length, event->time, event->entry/event->result, event->length, event->entry + 1000, event->time/
+s/widosha_host_stopped(host, event->outcome/widosha_host_stopped(host, WIDOSHA_OUTCOME_FRAME_STARTED/
+s/event->time, event->cause, event/event->time, WIDOSHA_CAUSE_SCHEDULING, event/
+s/(action == WIDOSHA_ACTION_STOP_NOW/(action == WIDOSHA_ACTION_STOP_AT || action == WIDOSHA_ACTION_STOP_NOW/
+s/        if (refusal != 0)/        if (refusal == 0)/
+s/    if (refusal != 0)/    if (0)/
+s/loop->answered(loop->context/loop->answered(NULL/
+s/loop->begin(loop->context/loop->begin(loop/
+s/next_request(loop->context/next_request(loop/
+CHANGES
+[ "$found" -ge 22 ] || failed "$found changes tried"
+echo "each of $found changes of c/widosha_loop.h is found"

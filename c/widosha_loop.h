@@ -47,7 +47,8 @@ struct widosha_loop {
     void (*refused)(void *context, const struct widosha_host_arrival *arrival, uint8_t refusal);
     /* A request's answer; its buffer is the host's again. */
     void (*answered)(void *context, const struct widosha_host_answer *answer);
-    /* Begins the task of the action that stands (listen, a stop, read the header, Tx, Rx, off) and returns at once. */
+    /* Begins the task of the action that stands (listen, a stop, read the header, Tx, Rx, off) and returns at once. The radio listens
+     * from the entry into an Rx on: where a Tx waits already, a stop is begun after that, and listen is left out. */
     void (*begin)(void *context, const struct widosha_host *host);
     int begun; /* 1 once the action that stands is begun */
 };

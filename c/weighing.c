@@ -151,11 +151,9 @@ static uint8_t weigh(uint32_t token, uint8_t number, const uint8_t *ack, uint64_
 {
     /* Data, wants an ACK; its number, PAN 1234, from cell 0001 to hub 0000; 23,920 kg. */
     const uint8_t frame[12] = {0x61, 0x88, number, 0x34, 0x12, 0x00, 0x00, 0x01, 0x00, 0x70, 0x5d, 0x00};
-    struct widosha_host_arrival arrival = {0, 0, 0, 0, 0, 0, 0};
+    struct widosha_host_arrival arrival = {0, WIDOSHA_DIRECTION_TX, WIDOSHA_START_BEST_EFFORT, 0, 0, 0, 0};
     uint8_t refusal;
     arrival.token = token;
-    arrival.direction = WIDOSHA_DIRECTION_TX;
-    arrival.start = WIDOSHA_START_BEST_EFFORT;
     arrival.buffer = WEIGHING_BUFFER;
     arrival.length = sizeof frame;
     arrival.cca = 1;

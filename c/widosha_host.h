@@ -1,12 +1,14 @@
 /* A host's side of the driver service, for any program in C99 or C++11: a struct with the slices, a wrapper for start and for
- * each of the eleven calls, and accessors for the reply. It is this header alone; nothing is allocated, and nothing is kept
- * outside the struct.
+ * each of the eleven calls, and accessors for the reply, the line and the pool. It is this header alone; nothing is allocated, and
+ * nothing is kept outside the struct.
  *
  * It includes widosha.h (folder include), which says what each call, action, answer and refusal is, and needs the library
  * driver_c. c/weighing.c is an example. Zero the struct before its first start, as `static struct widosha_host host;` does.
+ * c/widosha_loop.h has the loop between a radio, the service and a host over it, and c/hub.c is an example of that.
  *
  * A wrapper returns what the function returns, 0 or the number of the refusal. After a refusal state, line, pool and the
- * action are as before, and the reply is empty.
+ * action are as before, and the reply is empty. gcc and clang warn where what a wrapper returns is dropped, and, with -Wextra, where a
+ * code of another family is passed, as an outcome for a result; in C++ this is an error.
  *
  * One call at a time, and its answers are read before the next call: every call writes the reply anew, so after an arrival, a
  * withdrawal or a refused call the answers of the call before are gone, and an answer that is not read is given by no later call. So a
@@ -18,7 +20,8 @@
  * - The service's two own buffers are never the host's. They are those of start until a receiving buffer is exchanged for the
  *   spare one; then an answer returns another buffer than was handed in, so what counts is the number in the answer.
  * - A request's buffer is not the host's from widosha_host_arrive on, until the request is withdrawn or its answer returns a
- *   buffer. A frame to send is written before that. All other buffers are the host's, to read and to write.
+ *   buffer. A frame to send is written before that. All other buffers are the host's, to read and to write:
+ *   those of which widosha_host_holds says 0.
  * - The radio writes into the buffer that an Rx action named, until the service is told what came of it (entered, fallback, or
  *   stopped with an ended window); after a rollback it writes on. A radio that receives has the buffer of the Rx before until it enters
  *   the new one, so the host keeps both numbers: no later action has them. It reads the one that a Tx action named, until that is told as
@@ -55,8 +58,18 @@
 #endif
 #endif
 
-/* The bytes of a reply's action. */
+/* Before a function whose result says whether the call was accepted. */
+#ifndef WIDOSHA_MUST_USE
+#if defined(__GNUC__)
+#define WIDOSHA_MUST_USE __attribute__((warn_unused_result))
+#else
+#define WIDOSHA_MUST_USE
+#endif
+#endif
+
+/* The bytes of a reply's action, and of one request in the line. */
 #define WIDOSHA_HOST_ACTION_LENGTH 12
+#define WIDOSHA_HOST_RECORD_LENGTH (WIDOSHA_LINE_LENGTH / WIDOSHA_LINE_CAPACITY)
 
 /* One station. */
 struct widosha_host {
@@ -80,11 +93,11 @@ struct widosha_host_settings {
     uint8_t spare_buffer;
 };
 
-/* The numbers of widosha_arrive. */
+/* The numbers of widosha_arrive; so also what is known of a request that waits. */
 struct widosha_host_arrival {
     uint32_t token;
-    uint8_t direction; /* WIDOSHA_DIRECTION_ */
-    uint8_t start; /* WIDOSHA_START_ */
+    enum widosha_direction direction;
+    enum widosha_start_code start;
     uint64_t time;
     uint8_t buffer;
     uint16_t length;
@@ -171,7 +184,7 @@ static inline uint8_t widosha_host_called(struct widosha_host *host, uint8_t ref
 
 /* The pool is lent from an accepted start on: `uint8_t pool[3][WIDOSHA_BUFFER_LENGTH]` has three buffers. Nothing finds a count that
  * is more than the pool has. */
-static inline uint8_t widosha_host_start(
+WIDOSHA_MUST_USE static inline uint8_t widosha_host_start(
     struct widosha_host *host, const struct widosha_host_settings *settings, uint8_t (*pool)[WIDOSHA_BUFFER_LENGTH], uint8_t count)
 {
     uint8_t *bytes = (uint8_t *)pool;
@@ -186,68 +199,70 @@ static inline uint8_t widosha_host_start(
     return widosha_host_called(host, refusal);
 }
 
-static inline uint8_t widosha_host_arrive(struct widosha_host *host, const struct widosha_host_arrival *arrival)
+WIDOSHA_MUST_USE static inline uint8_t widosha_host_arrive(struct widosha_host *host, const struct widosha_host_arrival *arrival)
 {
     return widosha_host_called(
         host,
         widosha_arrive(
-            arrival->token, arrival->direction, arrival->start, arrival->time, arrival->buffer, arrival->length, arrival->cca,
-            WIDOSHA_HOST_SLICES(host)));
+            arrival->token, (uint8_t)arrival->direction, (uint8_t)arrival->start, arrival->time, arrival->buffer, arrival->length,
+            arrival->cca, WIDOSHA_HOST_SLICES(host)));
 }
 
-static inline uint8_t widosha_host_withdraw(struct widosha_host *host, uint32_t token)
+WIDOSHA_MUST_USE static inline uint8_t widosha_host_withdraw(struct widosha_host *host, uint32_t token)
 {
     return widosha_host_called(host, widosha_withdraw(token, WIDOSHA_HOST_SLICES(host)));
 }
 
-static inline uint8_t widosha_host_request(struct widosha_host *host)
+WIDOSHA_MUST_USE static inline uint8_t widosha_host_request(struct widosha_host *host)
 {
     return widosha_host_called(host, widosha_request(WIDOSHA_HOST_SLICES(host)));
 }
 
-static inline uint8_t widosha_host_none(struct widosha_host *host)
+WIDOSHA_MUST_USE static inline uint8_t widosha_host_none(struct widosha_host *host)
 {
     return widosha_host_called(host, widosha_none(WIDOSHA_HOST_SLICES(host)));
 }
 
-static inline uint8_t widosha_host_frame_start(struct widosha_host *host)
+WIDOSHA_MUST_USE static inline uint8_t widosha_host_frame_start(struct widosha_host *host)
 {
     return widosha_host_called(host, widosha_frame_start(WIDOSHA_HOST_SLICES(host)));
 }
 
-static inline uint8_t widosha_host_outbound_seen(struct widosha_host *host, uint8_t start, uint64_t time, uint8_t cca)
+WIDOSHA_MUST_USE static inline uint8_t widosha_host_outbound_seen(
+    struct widosha_host *host, enum widosha_start_code start, uint64_t time, uint8_t cca)
 {
-    return widosha_host_called(host, widosha_outbound_seen(start, time, cca, WIDOSHA_HOST_SLICES(host)));
+    return widosha_host_called(host, widosha_outbound_seen((uint8_t)start, time, cca, WIDOSHA_HOST_SLICES(host)));
 }
 
-static inline uint8_t widosha_host_stopped(
-    struct widosha_host *host, uint8_t outcome, uint16_t length, uint64_t time, uint8_t quality)
+WIDOSHA_MUST_USE static inline uint8_t widosha_host_stopped(
+    struct widosha_host *host, enum widosha_stop_outcome outcome, uint16_t length, uint64_t time, uint8_t quality)
 {
-    return widosha_host_called(host, widosha_stopped(outcome, length, time, quality, WIDOSHA_HOST_SLICES(host)));
+    return widosha_host_called(host, widosha_stopped((uint8_t)outcome, length, time, quality, WIDOSHA_HOST_SLICES(host)));
 }
 
-static inline uint8_t widosha_host_header(struct widosha_host *host, uint16_t arrived, uint16_t length)
+WIDOSHA_MUST_USE static inline uint8_t widosha_host_header(struct widosha_host *host, uint16_t arrived, uint16_t length)
 {
     WIDOSHA_FENCE();
     return widosha_host_called(host, widosha_header(arrived, length, WIDOSHA_HOST_SLICES(host)));
 }
 
-static inline uint8_t widosha_host_entered(
-    struct widosha_host *host, uint8_t result, uint16_t length, uint64_t time, uint64_t entry, uint8_t quality)
+WIDOSHA_MUST_USE static inline uint8_t widosha_host_entered(
+    struct widosha_host *host, enum widosha_result result, uint16_t length, uint64_t time, uint64_t entry, uint8_t quality)
 {
     WIDOSHA_FENCE();
-    return widosha_host_called(host, widosha_entered(result, length, time, entry, quality, WIDOSHA_HOST_SLICES(host)));
+    return widosha_host_called(host, widosha_entered((uint8_t)result, length, time, entry, quality, WIDOSHA_HOST_SLICES(host)));
 }
 
-static inline uint8_t widosha_host_fallback(
-    struct widosha_host *host, uint8_t result, uint16_t length, uint64_t time, uint8_t cause, uint64_t cause_time, uint8_t quality)
+WIDOSHA_MUST_USE static inline uint8_t widosha_host_fallback(
+    struct widosha_host *host, enum widosha_result result, uint16_t length, uint64_t time, enum widosha_cause cause,
+    uint64_t cause_time, uint8_t quality)
 {
     WIDOSHA_FENCE();
     return widosha_host_called(
-        host, widosha_fallback(result, length, time, cause, cause_time, quality, WIDOSHA_HOST_SLICES(host)));
+        host, widosha_fallback((uint8_t)result, length, time, (uint8_t)cause, cause_time, quality, WIDOSHA_HOST_SLICES(host)));
 }
 
-static inline uint8_t widosha_host_rollback(struct widosha_host *host)
+WIDOSHA_MUST_USE static inline uint8_t widosha_host_rollback(struct widosha_host *host)
 {
     return widosha_host_called(host, widosha_rollback(WIDOSHA_HOST_SLICES(host)));
 }
@@ -324,7 +339,86 @@ static inline struct widosha_host_answer widosha_host_answer_at(const struct wid
     return answer;
 }
 
+/* ---- The line: the requests that wait, the earliest arrival at place 0 */
+
+/* How many wait, 0 to 4. */
+static inline unsigned widosha_host_waiting(const struct widosha_host *host)
+{
+    unsigned waiting = 0;
+    while (waiting < WIDOSHA_LINE_CAPACITY && host->line[waiting * WIDOSHA_HOST_RECORD_LENGTH] != 0)
+        waiting++;
+    return waiting;
+}
+
+/* The request at a place; if none waits there, all its numbers are 0. So are those that it does not use: the time of one that starts
+ * with best effort, length and cca of an Rx. */
+static inline struct widosha_host_arrival widosha_host_waiting_at(const struct widosha_host *host, unsigned place)
+{
+    struct widosha_host_arrival arrival = {0, WIDOSHA_DIRECTION_TX, WIDOSHA_START_BEST_EFFORT, 0, 0, 0, 0};
+    if (place < widosha_host_waiting(host)) {
+        const uint8_t *record = host->line + place * WIDOSHA_HOST_RECORD_LENGTH;
+        arrival.token = (uint32_t)widosha_host_number(record + 4, 4);
+        arrival.direction = record[0] == 1 ? WIDOSHA_DIRECTION_TX : WIDOSHA_DIRECTION_RX;
+        arrival.start = (enum widosha_start_code)record[1];
+        arrival.time = widosha_host_number(record + 8, 8);
+        arrival.buffer = record[3];
+        arrival.length = (uint16_t)widosha_host_number(record + 16, 2);
+        arrival.cca = record[2];
+    }
+    return arrival;
+}
+
+/* 1 if a Tx waits, and then the earliest of them; 0 if none does, and then tx keeps what it has. */
+static inline int widosha_host_earliest_tx(const struct widosha_host *host, struct widosha_host_arrival *tx)
+{
+    unsigned place, waiting = widosha_host_waiting(host);
+    for (place = 0; place < waiting; place++) {
+        struct widosha_host_arrival arrival = widosha_host_waiting_at(host, place);
+        if (arrival.direction == WIDOSHA_DIRECTION_TX) {
+            *tx = arrival;
+            return 1;
+        }
+    }
+    return 0;
+}
+
+/* Tells that the earliest Tx was seen, with its own numbers. If none waits, or if the radio does not listen, it is refused by 5. */
+WIDOSHA_MUST_USE static inline uint8_t widosha_host_outbound_seen_earliest(struct widosha_host *host)
+{
+    struct widosha_host_arrival tx = {0, WIDOSHA_DIRECTION_TX, WIDOSHA_START_BEST_EFFORT, 0, 0, 0, 0};
+    (void)widosha_host_earliest_tx(host, &tx);
+    return widosha_host_outbound_seen(host, tx.start, tx.time, tx.cca);
+}
+
 /* ---- The pool */
+
+/* Whether bytes 20 to 24 of the state are a request's, with its buffer at 24. */
+static inline int widosha_host_at_work(const struct widosha_host *host)
+{
+    switch (host->state[17]) {
+    case 0: /* asking: but for idle, and sending an ACK */
+        return host->state[18] != 0 && host->state[18] != 5;
+    case 1: /* a transition for a request: but out of off, and out of sending an ACK */
+        return host->state[18] != 0 && host->state[18] != 3;
+    default:
+        return 1;
+    }
+}
+
+/* 1 if the service holds a buffer below the count, 0 if it is the host's: the service's own two, and those of requests that wait or have
+ * left the line and are not answered yet. It is what refusal 7 of an arrival goes by. After an accepted start. */
+static inline int widosha_host_holds(const struct widosha_host *host, uint8_t buffer)
+{
+    unsigned place, waiting = widosha_host_waiting(host);
+    if (buffer == host->state[15] || buffer == host->state[16] || (widosha_host_at_work(host) && buffer == host->state[24]))
+        return 1;
+    if (host->state[19] != 0 && buffer == host->state[31]) /* the radio enters a request's task */
+        return 1;
+    for (place = 0; place < waiting; place++)
+        if (widosha_host_waiting_at(host, place).buffer == buffer)
+            return 1;
+    return 0;
+}
 
 /* Where the frame in a buffer begins; NULL if there is no such buffer. After an accepted start. It is given of every buffer, whoever's
  * it is now. */
@@ -336,7 +430,7 @@ static inline uint8_t *widosha_host_frame(const struct widosha_host *host, uint8
 /* The longest frame without checksum. After an accepted start. */
 static inline uint8_t widosha_host_longest(const struct widosha_host *host)
 {
-    return (uint8_t)(127 - host->state[3]);
+    return (uint8_t)(WIDOSHA_FRAME_LENGTH - host->state[3]);
 }
 
 #endif

@@ -52,6 +52,14 @@
 #define WIDOSHA_BUFFER_LENGTH 144
 #define WIDOSHA_INFO_LENGTH 32
 
+/* Limits. */
+#define WIDOSHA_LINE_CAPACITY 4 /* requests that can wait */
+#define WIDOSHA_COUNT_LEAST 3 /* buffers of a pool */
+#define WIDOSHA_COUNT_MOST 32
+#define WIDOSHA_FRAME_LENGTH 127 /* bytes of the longest frame, with its checksum */
+#define WIDOSHA_HEADER_LENGTH 23 /* bytes of the longest header, to the end of its addresses */
+#define WIDOSHA_ACK_WAIT_NANOSECONDS 10000 /* from the entry into the wait for an ACK to the latest start of one */
+
 /* Direction of a request. */
 enum widosha_direction {
     WIDOSHA_DIRECTION_TX = 0, /* send a frame */

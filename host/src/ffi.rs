@@ -19,6 +19,19 @@ pub const BUFFER_LENGTH: usize = 144;
 /// Length of the slice of facts in bytes.
 pub const INFO_LENGTH: usize = 32;
 
+/// How many requests can wait.
+pub const LINE_CAPACITY: usize = 4;
+/// The least count of buffers in a pool.
+pub const COUNT_LEAST: u8 = 3;
+/// The greatest count of buffers in a pool.
+pub const COUNT_MOST: u8 = 32;
+/// The longest frame with its checksum, in bytes.
+pub const FRAME_LENGTH: usize = 127;
+/// The longest header, to the end of its addresses, in bytes.
+pub const HEADER_LENGTH: usize = 23;
+/// From the entry into the wait for an acknowledgement to the latest start of one.
+pub const ACK_WAIT_NANOSECONDS: u64 = 10000;
+
 /// The check's answer yes: the last two bytes are the checksum of the rest.
 pub const FCS_YES: u8 = 0;
 /// The check's answer no. 255 is no number of a refusal.

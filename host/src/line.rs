@@ -4,7 +4,7 @@ use crate::ffi::{self, LINE_LENGTH};
 use crate::time::LocalClockInstant;
 
 /// How many requests can wait. One more is refused by 12.
-pub const LINE_CAPACITY: usize = 4;
+pub const LINE_CAPACITY: usize = ffi::LINE_CAPACITY;
 
 /// What a record says by its first byte, if it is not free. Request E7 of document 02 is to add 3, a place that is held.
 const TX_WAITS: u8 = 1;

@@ -1,9 +1,9 @@
 //! What start sets, and the pool of buffers.
-use crate::ffi::BUFFER_LENGTH;
+use crate::ffi::{self, BUFFER_LENGTH};
 use core::fmt;
 
 /// The longest frame with checksum, in bytes.
-pub const FRAME_LENGTH: usize = 127;
+pub const FRAME_LENGTH: usize = ffi::FRAME_LENGTH;
 
 /// Length of a frame's checksum.
 #[derive(Clone, Copy, Debug, PartialEq, Eq)]

@@ -57,8 +57,8 @@ static uint8_t arrive(uint32_t token, enum widosha_direction direction, enum wid
     struct widosha_host_arrival arrival;
     memset(&arrival, 0x5a, sizeof arrival);
     arrival.token = token;
-    arrival.direction = (uint8_t)direction;
-    arrival.start = (uint8_t)start;
+    arrival.direction = direction;
+    arrival.start = start;
     arrival.time = time;
     arrival.buffer = buffer;
     arrival.length = length;

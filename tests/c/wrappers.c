@@ -86,23 +86,24 @@ uint8_t widosha_rollback(SLICES) { RECORD("rollback", 0); }
 static struct widosha_host host;
 static uint8_t pool[5][WIDOSHA_BUFFER_LENGTH];
 static const uint8_t empty[WIDOSHA_REPLY_LENGTH] = {0};
-/* Widest numbers, each different, so that one that is cut or in another's place is seen. */
+/* Widest numbers, each different, so that one that is cut or in another's place is seen; of the codes two that differ. */
 static const uint64_t LONG = UINT64_C(0xf1e2d3c4b5a69788), LONGER = UINT64_C(0xfedcba9876543210);
 
 static uint8_t make(int which)
 {
-    static const struct widosha_host_arrival arrival = {0xa1b2c3d4, 0xe5, 0xf6, UINT64_C(0xf1e2d3c4b5a69788), 0xab, 0xbcde, 0xcf};
+    static const struct widosha_host_arrival arrival = {
+        0xa1b2c3d4, WIDOSHA_DIRECTION_RX, WIDOSHA_START_BEST_EFFORT, UINT64_C(0xf1e2d3c4b5a69788), 0xab, 0xbcde, 0xcf};
     switch (which) {
     case 0: return widosha_host_arrive(&host, &arrival);
     case 1: return widosha_host_withdraw(&host, 0xa1b2c3d4);
     case 2: return widosha_host_request(&host);
     case 3: return widosha_host_none(&host);
     case 4: return widosha_host_frame_start(&host);
-    case 5: return widosha_host_outbound_seen(&host, 0xe5, LONG, 0xf6);
-    case 6: return widosha_host_stopped(&host, 0xe5, 0xbcde, LONG, 0xf6);
+    case 5: return widosha_host_outbound_seen(&host, WIDOSHA_START_AT, LONG, 0xf6);
+    case 6: return widosha_host_stopped(&host, WIDOSHA_OUTCOME_CRC_ERROR, 0xbcde, LONG, 0xf6);
     case 7: return widosha_host_header(&host, 0xbcde, 0xcdef);
-    case 8: return widosha_host_entered(&host, 0xe5, 0xbcde, LONG, LONGER, 0xf6);
-    case 9: return widosha_host_fallback(&host, 0xe5, 0xbcde, LONG, 0xf6, LONGER, 0xab);
+    case 8: return widosha_host_entered(&host, WIDOSHA_RESULT_WINDOW_ENDED, 0xbcde, LONG, LONGER, 0xf6);
+    case 9: return widosha_host_fallback(&host, WIDOSHA_RESULT_CRC_ERROR, 0xbcde, LONG, WIDOSHA_CAUSE_TASK, LONGER, 0xab);
     default: return widosha_host_rollback(&host);
     }
 }
@@ -112,16 +113,16 @@ static const struct {
     uint64_t numbers[9];
     int fences;
 } CALLS[11] = {
-    {"arrive", {0xa1b2c3d4, 0xe5, 0xf6, UINT64_C(0xf1e2d3c4b5a69788), 0xab, 0xbcde, 0xcf}, 0},
+    {"arrive", {0xa1b2c3d4, 1, 0, UINT64_C(0xf1e2d3c4b5a69788), 0xab, 0xbcde, 0xcf}, 0},
     {"withdraw", {0xa1b2c3d4}, 0},
     {"request", {0}, 0},
     {"none", {0}, 0},
     {"frame_start", {0}, 0},
-    {"outbound_seen", {0xe5, UINT64_C(0xf1e2d3c4b5a69788), 0xf6}, 0},
-    {"stopped", {0xe5, 0xbcde, UINT64_C(0xf1e2d3c4b5a69788), 0xf6}, 0},
+    {"outbound_seen", {1, UINT64_C(0xf1e2d3c4b5a69788), 0xf6}, 0},
+    {"stopped", {4, 0xbcde, UINT64_C(0xf1e2d3c4b5a69788), 0xf6}, 0},
     {"header", {0xbcde, 0xcdef}, 1},
-    {"entered", {0xe5, 0xbcde, UINT64_C(0xf1e2d3c4b5a69788), UINT64_C(0xfedcba9876543210), 0xf6}, 1},
-    {"fallback", {0xe5, 0xbcde, UINT64_C(0xf1e2d3c4b5a69788), 0xf6, UINT64_C(0xfedcba9876543210), 0xab}, 1},
+    {"entered", {3, 0xbcde, UINT64_C(0xf1e2d3c4b5a69788), UINT64_C(0xfedcba9876543210), 0xf6}, 1},
+    {"fallback", {4, 0xbcde, UINT64_C(0xf1e2d3c4b5a69788), 2, UINT64_C(0xfedcba9876543210), 0xab}, 1},
     {"rollback", {0}, 0},
 };
 
@@ -179,6 +180,29 @@ static void try_start(void)
     EXPECT(host.pool == &pool[0][0] && host.count == 5);
     EXPECT(widosha_host_action(&host) == WIDOSHA_ACTION_RECEIVE_REQUEST);
     expect_slices(5);
+}
+
+/* Every code is passed as it is, wherever a code is passed. */
+static void try_passed(void)
+{
+    int code, passed;
+    memset(written, 0, sizeof written);
+    returned = 0;
+    for (code = 0; code <= WIDOSHA_OUTCOME_CRC_ERROR; code++) {
+        passed = widosha_host_stopped(&host, (enum widosha_stop_outcome)code, 0, 0, 0);
+        EXPECT(passed == 0 && met.numbers[0] == (uint64_t)code);
+        passed = widosha_host_entered(&host, (enum widosha_result)code, 0, 0, 0, 0);
+        EXPECT(passed == 0 && met.numbers[0] == (uint64_t)code);
+        passed = widosha_host_fallback(&host, (enum widosha_result)code, 0, 0, (enum widosha_cause)(code % 3), 0, 0);
+        EXPECT(passed == 0 && met.numbers[0] == (uint64_t)code && met.numbers[3] == (uint64_t)code % 3);
+    }
+    for (code = 0; code < 4; code++) {
+        struct widosha_host_arrival arrival = {0, (enum widosha_direction)(code / 2), (enum widosha_start_code)(code % 2), 0, 0, 0, 0};
+        passed = widosha_host_arrive(&host, &arrival);
+        EXPECT(passed == 0 && met.numbers[1] == (uint64_t)code / 2 && met.numbers[2] == (uint64_t)code % 2);
+        passed = widosha_host_outbound_seen(&host, (enum widosha_start_code)(code % 2), 0, 0);
+        EXPECT(passed == 0 && met.numbers[0] == (uint64_t)code % 2);
+    }
 }
 
 /* ---- The accessors, on the bytes of docs/LAYOUTS.md */
@@ -264,6 +288,7 @@ int main(void)
     try_start();
     for (which = 0; which < 11; which++)
         try_call(which);
+    try_passed();
     try_action();
     try_answers();
     try_codes();

@@ -24,7 +24,9 @@ SOURCES = {
 BESIDE = {
     "definitions": """crates/abi_version/specs/Version.antt crates/slices/specs/Slices.antt crates/radio_frame/specs/Settings.antt
         crates/info_bytes/specs/Info.antt crates/fcs/specs/Check.antt crates/call_codes/specs/Codes.antt crates/phy/specs/Phy.antt
-        crates/reply_bytes/specs/Reply.antt crates/refusals/specs/Refusals.antt crates/call_codes/src/lib.rt""",
+        crates/reply_bytes/specs/Reply.antt crates/refusals/specs/Refusals.antt crates/call_codes/src/lib.rt
+        crates/header/specs/Header.antt crates/service/specs/Service.antt crates/service/specs/Refusals.antt
+        crates/service/specs/LineClaims.antt""",
     "helper": "c/widosha_host.h",
 }
 # Which of them state numbers.
@@ -38,7 +40,7 @@ IN_SOURCE = {"res": "result"}
 # How a text gives a name its number. In docs/LAYOUTS.md a row's first or second column is the number, and its last the name.
 NAMED = {
     "header": [r"#define WIDOSHA_(?P<name>\w+) (?P<number>\d+)\b", r"\n    WIDOSHA_(?P<name>\w+) = (?P<number>\d+)\b"],
-    "host": [r"\npub const (?P<name>\w+): (?:u8|u32|usize) = (?P<number>\d+);"],
+    "host": [r"\npub const (?P<name>\w+): (?:u8|u32|u64|usize) = (?P<number>\d+);"],
     "table": [r"\n\| (?:[a-z_, ]*\| )?(?P<number>\d+) \|[^\n]* \| `WIDOSHA_(?P<name>\w+)` \|(?=\n)"],
 }
 # Every name in a text, also one that no pattern above reads.
@@ -80,6 +82,19 @@ DEFINED = {
     "INFO_LENGTH": [
         r"number : r ≡ cond \(eqb \(length info\) (\d+)\)",
         r"bytes : info' ≡ cond \(eqb \(length info\) (\d+)\)",
+    ],
+    "LINE_CAPACITY": [
+        r"\(leb (\d+) \(length qs\)\) \(any_passes ",
+        r"\(cond \(leb (\d+) \(length qs\)\) 12\n",
+        r"at_most_four : length b\.waiting ≤ (\d+)\n",
+    ],
+    "COUNT_LEAST": [r"\npool_unfit s pool = \(ltb s\.count (\d+) ", r"pub low : (\d+) ≤ s\.count\n"],
+    "COUNT_MOST": [r"\npool_unfit s pool = [^\n]* ltb (\d+) s\.count\)", r"pub high : s\.count ≤ (\d+)\n"],
+    "FRAME_LENGTH": [r"\nphy_max_packet_size = (\d+)\n", r"\nunfit_length frame = [^\n]* ltb (\d+) \(length frame\)\n"],
+    "HEADER_LENGTH": [r"\(header_length fc ≤ (\d+)\)", r"pub at_most : end ≤ (\d+)\n"],
+    "ACK_WAIT_NANOSECONDS": [
+        r"\nlatest_ack_start_of entry = cond \(ltb \(entry \+ (\d+)\)",
+        r"\(Some \(entry \+ (\d+)\)\) None\n",
     ],
     "FCS_YES": [r"\ncheck_number \(Ok true\) = (\d+)\n"],
     "FCS_NO": [r"\ncheck_number \(Ok false\) = (\d+)\n"],
@@ -672,7 +687,7 @@ def main():
     if sys.argv[1:] == ["--self-test"]:
         tried, missed = self_test(texts, read)
         print("\n".join("not found: " + each for each in missed) or "each of %d changes is found" % tried)
-        sys.exit(1 if missed or tried < 3500 else 0)
+        sys.exit(1 if missed or tried < 3650 else 0)
     header = read["header"]
     print("%d functions and %d numbers agree in %s" % (len(header.signatures), len(header.numbers), ", ".join(SOURCES.values())))
     print("the numbers are those of the definitions")

@@ -277,6 +277,7 @@ mod service;
 mod settings;
 mod station;
 mod time;
+mod view;
 mod wait;
 
 pub use call::{Call, Cause, Request, RxResult, StopResult, Task, TaskResult, Timestamp};
@@ -289,4 +290,5 @@ pub use service::DriverService;
 pub use settings::{FcsLength, Pool, Settings, FRAME_LENGTH};
 pub use station::{Buffers, Host, HostTask, Radio, RadioEvent, RadioTask, Service, Station};
 pub use time::LocalClockInstant;
+pub use view::HostView;
 pub use wait::{Asked, Left, Next, Stop, Transition, Wait};

@@ -40,6 +40,20 @@ done
 ln -s "$(command -v rt)" "$out/few/rt"
 PATH=$out/few bash ./run >"$out/lines" 2>"$out/told" && fail "without cargo it ends with 0"
 grep -q '^  rt: ' "$out/told" && fail "rt is there, and is said to be missing"
+# Others than those that are needed: a toolchain is told, an older cargo is missing too.
+others() {
+    printf '#!%s\necho "%s"\n' "$(command -v bash)" "$2" >"$out/few/$1.new"
+    chmod +x "$out/few/$1.new" && mv -f "$out/few/$1.new" "$out/few/$1"
+}
+others rt 'another toolchain'
+for each in 1.81.9 1.82.0 2.0.0; do
+    others cargo "cargo $each (of another day)"
+    PATH=$out/few bash ./run >"$out/lines" 2>"$out/told" && fail "without a linker it ends with 0"
+    grep -q "^The toolchain is 'another toolchain': proofs are claimed of $(<toolchain.txt) alone" "$out/told" ||
+        fail "another toolchain is not told: $(cat "$out/told")"
+    [ "$(grep -c '^  a later cargo: ' "$out/told")" -eq "$([ "$each" = 1.81.9 ] && echo 1 || echo 0)" ] ||
+        fail "cargo $each: $(cat "$out/told")"
+done
 
 # The progress, of what rt says. Another count of the crates: all lines that are reached from the two libraries'.
 crates=$(python3 -B - <<'END'

@@ -375,6 +375,15 @@ impl<H: Host + ?Sized> Host for &mut H {
 /// # Ok::<(), Error>(())
 /// ```
 ///
+/// # What is the port's, and what the host's
+///
+/// `told`, `radio_mut`, `service` and `into_parts` are for whoever ports the service to a radio: they reach all buffers, or have the
+/// service do what is only right if the radio did so. Where the radio writes by itself, nobody else is given them. `host_mut`,
+/// `host_has_more`, `arrive` and `withdraw` are for the host, which reaches free buffers alone, there and in its own methods.
+///
+/// A call needs at most 2,114 bytes of stack in the library, beside those of the loop, the radio and the host: docs/BENCHMARKS.md of
+/// the repository has that bound, and what each call takes.
+///
 /// # From interrupts
 ///
 /// The station stands where the interrupt handler and the main loop can reach it, as in a `static` behind a critical section; it can

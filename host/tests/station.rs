@@ -49,8 +49,6 @@ struct Common {
     works_on: [Option<u8>; 2],
     /// What the radio has received whole last.
     received: Vec<u8>,
-    /// The last answer with a frame.
-    frame: Option<Answer>,
     /// Number of the last frame that was sent.
     number: u8,
     /// How many requests the host wants to hand in.
@@ -373,7 +371,6 @@ impl Host for TestHost {
         if let Response::Received(RxResult::Frame { .. }) = answer.response {
             let frame = view.received(&answer).expect("it was received").frame;
             assert_eq!(frame, self.common.borrow().received);
-            self.common.borrow_mut().frame = Some(answer);
         }
         self.common.borrow_mut().meet("answer", &answer.response);
         self.returned(answer.buffer);
@@ -432,8 +429,14 @@ impl Host for TestHost {
     }
 }
 
-/// The host reaches these buffers, whole and by their frames, and no other, and none that the radio works on. The last received frame
-/// it reaches as long as its buffer is free.
+const FIVE_BYTES: RxResult = RxResult::Frame {
+    length: 5,
+    time: LocalClockInstant::from_nanos(1),
+    quality: 0,
+};
+
+/// The host reaches these buffers, whole, by their frames and by an answer that names them, and no other, and none that the radio works
+/// on.
 fn reaches(view: &HostView, free: &[u8], common: &Common) {
     for buffer in 0..=BUFFERS as u8 {
         let is_free = free.contains(&buffer);
@@ -442,9 +445,12 @@ fn reaches(view: &HostView, free: &[u8], common: &Common) {
         let (frame, whole) = (view.frame(buffer), view.buffer(buffer));
         assert_eq!(frame.is_some(), is_free, "{buffer}");
         assert_eq!(frame, whole.and_then(|whole| whole[2..].first_chunk()), "{buffer}");
-    }
-    if let Some(answer) = &common.frame {
-        assert_eq!(view.received(answer).is_some(), free.contains(&answer.buffer), "{answer:?}");
+        let received = view.received(&Answer::new(1, buffer, Response::Received(FIVE_BYTES)));
+        assert_eq!(
+            received.map(|received| received.frame),
+            frame.map(|frame| &frame[..5]),
+            "{buffer}"
+        );
     }
 }
 

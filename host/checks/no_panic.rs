@@ -145,18 +145,19 @@ impl Radio for Kept {
 }
 
 impl Host for Kept {
-    fn next_request(&mut self, buffers: &mut dyn Buffers) -> Option<Request> {
+    fn next_request(&mut self, view: &mut HostView) -> Option<Request> {
         let request = self.request.take()?;
-        buffers.put_frame(request.buffer, &[self.sum])?;
-        buffers.frame_mut(request.buffer)?[1] = self.sum;
-        buffers.buffer_mut(request.buffer)?[0] = self.sum;
+        view.put_frame(request.buffer, &[self.sum])?;
+        view.frame_mut(request.buffer)?[1] = self.sum;
+        view.buffer_mut(request.buffer)?[0] = self.sum;
         Some(request)
     }
 
-    fn answered(&mut self, answer: Answer, buffers: &dyn Buffers) {
+    fn answered(&mut self, answer: Answer, view: &HostView) {
         self.answer = Some(answer);
-        self.sum ^= buffers.received(&answer).map_or(0, |received| received.frame.len() as u8);
-        self.sum ^= buffers.frame(answer.buffer).map_or(0, |frame| frame[0]);
+        self.sum ^= view.received(&answer).map_or(0, |received| received.frame.len() as u8);
+        self.sum ^= view.frame(answer.buffer).map_or(0, |frame| frame[0]);
+        self.sum ^= view.buffer(answer.buffer).map_or(0, |whole| whole[0]);
     }
 
     fn refused(&mut self, request: Request, refusal: Refusal) {
@@ -164,8 +165,9 @@ impl Host for Kept {
         self.sum ^= refusal.number() ^ request.buffer;
     }
 
-    fn made(&mut self, _: &Call, result: &Result<Reply, Error>, service: &dyn Service) {
-        self.sum ^= u8::from(result.is_ok()) ^ u8::from(service.wait().is_some());
+    fn made(&mut self, _: &Call, result: &Result<Reply, Error>, view: &HostView) {
+        self.sum ^= u8::from(result.is_ok()) ^ u8::from(view.wait().is_some());
+        self.sum ^= u8::from(view.waiting()[0].is_some()) ^ u8::from(view.is_held(self.sum));
     }
 }
 
@@ -202,12 +204,14 @@ pub extern "C" fn begin<'p>(
 pub extern "C" fn looped(station: &mut Looped, event: &RadioEvent, request: &Request, result: &mut Result<(), Error>) -> u8 {
     *result = station.host_has_more();
     station.radio_mut().0.event = Some(*event);
-    station.host_mut().0.request = Some(*request);
+    let (host, mut view) = station.host_mut();
+    host.request = Some(*request);
+    let put = u8::from(view.put_frame(request.buffer, &[host.sum]).is_some());
     *result = result.and(station.told(*event)).and(station.arrive(*request));
     *result = result.and(station.withdraw(request.token).map(|_| ()));
     let task = RadioTask::of(station.action()).is_some() || HostTask::of(station.action()).is_some();
     let known = task || station.radio().task.is_some() || station.host().answer.is_some();
-    station.service().state()[0] ^ u8::from(known)
+    station.service().state()[0] ^ u8::from(known) ^ put
 }
 
 /// A writer that counts what is written.

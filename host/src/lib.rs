@@ -121,9 +121,14 @@
 //! While the radio writes a buffer, **no reference to its bytes may live or be made**: neither `frame`, `frame_mut`, `put_frame`,
 //! `buffer`, `buffer_mut` and `received` of this buffer, nor `pool`, which is a reference to all of them. While it reads one,
 //! none that can write. Such a reference would say to the compiler that nobody else writes (or reads) there. `buffer_ptr` makes
-//! none, so it is what a radio is given, nor does any call make one. A host that keeps to the actions and the answers does not
-//! come near: it touches no buffer that is held. The types do not see to it: these methods are safe, and `Host` and `Radio` are
-//! given all buffers. So whoever lets a radio write by itself, in `unsafe` code, answers for the host beside it too.
+//! none, so it is what a radio is given, nor does any call make one.
+//!
+//! **Who sees to it.** A host of [`Station`] cannot come near: the methods of [`Host`], and `Station::host_mut`, give it a
+//! [`HostView`], in which a buffer that is held is none, and a radio works on held buffers alone. A loop of another kind can give
+//! its hosts one too. The methods of [`DriverService`] and [`Buffers`] reach all buffers and are safe, since a radio without DMA
+//! copies what arrives by them; and a false event would give a buffer back that the radio still writes. So whoever lets a radio
+//! write by itself, in `unsafe` code, keeps the service to itself, and of a station `told`, `radio_mut`, `service` and `into_parts`,
+//! tells what the radio did, and answers for that. It need not answer for a host.
 //!
 //! **The end.** A service that is dropped or forgotten stops no radio, and the pool is its owner's again from the last use of the
 //! service on. So the pool of a radio that writes by itself is lent for `'static`, as below; one that is lent for less is safe only
@@ -277,6 +282,7 @@ mod service;
 mod settings;
 mod station;
 mod time;
+mod view;
 mod wait;
 
 pub use call::{Call, Cause, Request, RxResult, StopResult, Task, TaskResult, Timestamp};
@@ -289,4 +295,5 @@ pub use service::DriverService;
 pub use settings::{FcsLength, Pool, Settings, FRAME_LENGTH};
 pub use station::{Buffers, Host, HostTask, Radio, RadioEvent, RadioTask, Service, Station};
 pub use time::LocalClockInstant;
+pub use view::HostView;
 pub use wait::{Asked, Left, Next, Stop, Transition, Wait};

@@ -217,7 +217,8 @@ impl<'p, const N: usize> DriverService<'p, N> {
     }
 
     /// A buffer's frame, to be written by the host before a Tx request or by the radio while it receives. None if there is no such
-    /// buffer, and for the ACK buffer, which only the service writes.
+    /// buffer, and for the ACK buffer, which only the service writes. It is not asked whether the buffer is held, as this is for
+    /// both; `HostView` asks.
     pub fn frame_mut(&mut self, buffer: u8) -> Option<&mut [u8; FRAME_LENGTH]> {
         let headroom = usize::from(self.settings.headroom);
         self.buffer_mut(buffer)?.get_mut(headroom..)?.first_chunk_mut()

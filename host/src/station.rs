@@ -8,6 +8,7 @@ use crate::reply::{Action, Answer, Reply, Spacing, StopListening, TaskDirection}
 use crate::service::DriverService;
 use crate::settings::{Pool, Settings, FRAME_LENGTH};
 use crate::time::LocalClockInstant;
+use crate::view::HostView;
 use crate::wait::Wait;
 use core::ptr::NonNull;
 
@@ -175,9 +176,9 @@ impl From<RadioEvent> for Call {
     }
 }
 
-/// The buffers of a service, for a radio and a host: they need no more of it. Each method is that of `DriverService`. All buffers
-/// are there, those too that a radio is writing into, of which no reference is to be made (the crate's documentation, "The pool and
-/// the radio").
+/// The buffers of a service, for a radio: it needs no more of it. Each method is that of `DriverService`. All buffers are there, those
+/// too that a radio is writing into by itself, of which no reference is to be made (the crate's documentation, "The pool and the
+/// radio"). A host has the free ones (`HostView`).
 pub trait Buffers {
     /// A buffer's frame: the 127 bytes after the headroom.
     fn frame(&self, buffer: u8) -> Option<&[u8; FRAME_LENGTH]>;
@@ -203,6 +204,8 @@ pub trait Service: Buffers {
     fn wait(&self) -> Option<Wait>;
     /// The requests that wait, the earliest arrival first.
     fn waiting(&self) -> [Option<Request>; LINE_CAPACITY];
+    /// Whether a buffer is the service's own, or that of a request that waits or is not answered. A host does not reach it then.
+    fn is_held(&self, buffer: u8) -> bool;
 }
 
 /// A radio that does what the service says. Its driver is written by whoever ports the service to it; `Station` has an example.
@@ -223,11 +226,11 @@ pub trait Radio {
 /// return, so they are to be short.
 pub trait Host {
     /// The next request, if there is one. This is asked as long as the line has room. What a Tx is to send is written into its buffer
-    /// before; the buffer is one that is lent to no other request.
-    fn next_request(&mut self, buffers: &mut dyn Buffers) -> Option<Request>;
+    /// before. A buffer that is lent to another request is none here, and the request that names it would be refused by 7.
+    fn next_request(&mut self, view: &mut HostView<'_>) -> Option<Request>;
 
-    /// A request is answered, and the answer's buffer is the host's again. A received frame stands in it: `Buffers::received`.
-    fn answered(&mut self, answer: Answer, buffers: &dyn Buffers);
+    /// A request is answered, and the answer's buffer is the host's again. A received frame stands in it: `HostView::received`.
+    fn answered(&mut self, answer: Answer, view: &HostView<'_>);
 
     /// A request that `next_request` gave is wrong by itself (refusals 6, 7, 8 and 13) and has not arrived. `next_request` is asked
     /// again, so it should not give the same once more. After 32 refusals in one turn it is asked in the next turn only, so that a
@@ -235,8 +238,8 @@ pub trait Host {
     fn refused(&mut self, request: Request, refusal: Refusal);
 
     /// A call was made, by the radio, the host or the loop, with this result; its answers come after this. For logs.
-    fn made(&mut self, call: &Call, result: &Result<Reply, Error>, service: &dyn Service) {
-        let _ = (call, result, service);
+    fn made(&mut self, call: &Call, result: &Result<Reply, Error>, view: &HostView<'_>) {
+        let _ = (call, result, view);
     }
 }
 
@@ -247,20 +250,20 @@ impl<R: Radio + ?Sized> Radio for &mut R {
 }
 
 impl<H: Host + ?Sized> Host for &mut H {
-    fn next_request(&mut self, buffers: &mut dyn Buffers) -> Option<Request> {
-        H::next_request(self, buffers)
+    fn next_request(&mut self, view: &mut HostView<'_>) -> Option<Request> {
+        H::next_request(self, view)
     }
 
-    fn answered(&mut self, answer: Answer, buffers: &dyn Buffers) {
-        H::answered(self, answer, buffers);
+    fn answered(&mut self, answer: Answer, view: &HostView<'_>) {
+        H::answered(self, answer, view);
     }
 
     fn refused(&mut self, request: Request, refusal: Refusal) {
         H::refused(self, request, refusal);
     }
 
-    fn made(&mut self, call: &Call, result: &Result<Reply, Error>, service: &dyn Service) {
-        H::made(self, call, result, service);
+    fn made(&mut self, call: &Call, result: &Result<Reply, Error>, view: &HostView<'_>) {
+        H::made(self, call, result, view);
     }
 }
 
@@ -333,13 +336,13 @@ impl<H: Host + ?Sized> Host for &mut H {
 /// }
 ///
 /// impl Host for Cell {
-///     fn next_request(&mut self, buffers: &mut dyn Buffers) -> Option<Request> {
-///         let length = buffers.put_frame(2, &self.weighing.take()?)?;
+///     fn next_request(&mut self, view: &mut HostView) -> Option<Request> {
+///         let length = view.put_frame(2, &self.weighing.take()?)?;
 ///         let task = Task::Tx { length, cca: true };
 ///         Some(Request { token: 1, start: Timestamp::BestEffort, buffer: 2, task })
 ///     }
 ///
-///     fn answered(&mut self, answer: Answer, _: &dyn Buffers) {
+///     fn answered(&mut self, answer: Answer, _: &HostView) {
 ///         self.answer = Some(answer);
 ///     }
 ///
@@ -371,6 +374,15 @@ impl<H: Host + ?Sized> Host for &mut H {
 /// assert!(matches!(station.host().answer, Some(Answer { token: 1, response: Response::Sent { .. }, .. })));
 /// # Ok::<(), Error>(())
 /// ```
+///
+/// # What is the port's, and what the host's
+///
+/// `told`, `radio_mut`, `service` and `into_parts` are for whoever ports the service to a radio: they reach all buffers, or have the
+/// service do what is only right if the radio did so. Where the radio writes by itself, nobody else is given them. `host_mut`,
+/// `host_has_more`, `arrive` and `withdraw` are for the host, which reaches free buffers alone, there and in its own methods.
+///
+/// A call needs at most 2,114 bytes of stack in the library, beside those of the loop, the radio and the host: docs/BENCHMARKS.md of
+/// the repository has that bound, and what each call takes.
 ///
 /// # From interrupts
 ///
@@ -481,7 +493,7 @@ impl<S: Service, R: Radio, H: Host> Station<S, R, H> {
         self.action
     }
 
-    /// The service: its state and line, what it waits for, and its buffers.
+    /// The service: its state and line, what it waits for, and all its buffers, the radio's too.
     pub fn service(&self) -> &S {
         &self.service
     }
@@ -501,9 +513,9 @@ impl<S: Service, R: Radio, H: Host> Station<S, R, H> {
         &self.host
     }
 
-    /// The host with the buffers, to give it something new.
-    pub fn host_mut(&mut self) -> (&mut H, &mut dyn Buffers) {
-        (&mut self.host, &mut self.service)
+    /// The host with what it reaches of the service, to give it something new.
+    pub fn host_mut(&mut self) -> (&mut H, HostView<'_>) {
+        (&mut self.host, HostView::new(&mut self.service))
     }
 
     /// Its three parts, as when the radio is to be reset. Nothing is told, and the radio does what it does: it is stopped before the
@@ -516,14 +528,14 @@ impl<S: Service, R: Radio, H: Host> Station<S, R, H> {
     /// One call, with its answers given to the host. A call on the line has no action, so the last one stands.
     fn make(&mut self, call: Call) -> Result<(), Error> {
         let result = self.service.step(call);
-        self.host.made(&call, &result, &self.service);
+        self.host.made(&call, &result, &HostView::new(&mut self.service));
         let reply = result?;
         if reply.action != Action::Nothing {
             self.action = reply.action;
             self.begun = false;
         }
         for answer in reply.answers {
-            self.host.answered(answer, &self.service);
+            self.host.answered(answer, &HostView::new(&mut self.service));
         }
         Ok(())
     }
@@ -585,7 +597,7 @@ impl<S: Service, R: Radio, H: Host> Station<S, R, H> {
     fn fill(&mut self) -> Result<(), Error> {
         let mut refused = 0;
         while refused < REFUSED_IN_A_TURN && self.service.waiting().contains(&None) {
-            let Some(request) = self.host.next_request(&mut self.service) else {
+            let Some(request) = self.host.next_request(&mut HostView::new(&mut self.service)) else {
                 return Ok(());
             };
             match self.make(Call::Arrive(request)) {
@@ -642,6 +654,10 @@ impl<const N: usize> Service for DriverService<'_, N> {
     fn waiting(&self) -> [Option<Request>; LINE_CAPACITY] {
         let mut waiting = DriverService::waiting(self);
         [(); LINE_CAPACITY].map(|()| waiting.next())
+    }
+
+    fn is_held(&self, buffer: u8) -> bool {
+        DriverService::is_held(self, buffer)
     }
 }
 

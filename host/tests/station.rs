@@ -1,7 +1,7 @@
 //! The loop of `Station`, with a random radio that does what it is told and a random host. Every call that the loop makes is accepted,
 //! but a Request that is refused by 9 and followed by None; a second service, on which each call is repeated as it is made known, says
-//! the same to each; the radio is told each task once, and only what it can do; every request is answered, waits or was withdrawn; and
-//! whenever the loop comes to rest, nothing is left for it to do.
+//! the same to each; the radio is told each task once, and only what it can do; every request is answered, waits or was withdrawn; the
+//! host reaches the buffers that are free and no other; and whenever the loop comes to rest, nothing is left for it to do.
 
 mod common;
 mod model;
@@ -43,6 +43,10 @@ const SETTINGS: Settings = Settings {
 struct Common {
     /// What the host has put into the buffers that it lent, by buffer.
     lent: BTreeMap<u8, Vec<u8>>,
+    /// What the radio and the host have written into buffers since the last call.
+    written: Vec<(u8, Vec<u8>)>,
+    /// The buffers that the radio works on: that of what it does, and that of the task it is to enter.
+    works_on: [Option<u8>; 2],
     /// What the radio has received whole last.
     received: Vec<u8>,
     /// Number of the last frame that was sent.
@@ -98,6 +102,14 @@ struct TestRadio {
     now: u64,
 }
 
+/// The buffer that a task names.
+fn buffer_of(task: RadioTask) -> Option<u8> {
+    match task {
+        RadioTask::Tx { buffer, .. } | RadioTask::Rx { buffer, .. } => Some(buffer),
+        _ => None,
+    }
+}
+
 impl Radio for TestRadio {
     fn begin(&mut self, task: RadioTask, buffers: &mut dyn Buffers) -> Option<RadioEvent> {
         let follows = match self.task {
@@ -107,6 +119,7 @@ impl Radio for TestRadio {
         assert!(follows, "{task:?} is begun while {:?} has no outcome", self.task);
         self.check(task, buffers);
         self.task = Some(task);
+        self.common.borrow_mut().works_on[1] = buffer_of(task);
         self.common.borrow_mut().meet("task", &task);
         self.common.borrow_mut().begun = true;
         if self.rng.chance(self.unfit_at_once) {
@@ -169,6 +182,7 @@ impl TestRadio {
                 let damaged = matches!(self.doing, Doing::Receiving(_, true, _));
                 if rollback && damaged {
                     self.doing = Doing::Listening;
+                    self.common.borrow_mut().works_on[1] = None;
                     return RadioEvent::Rollback;
                 }
                 self.enter(task, buffers)
@@ -242,6 +256,7 @@ impl TestRadio {
                 }
                 0 | 1 => {
                     self.doing = Doing::Off;
+                    self.common.borrow_mut().works_on[0] = None;
                     self.failed = false;
                     return StopResult::RxWindowEnded(RxResult::RxWindowEnded);
                 }
@@ -259,6 +274,8 @@ impl TestRadio {
         *read = true;
         let arrived = bytes.len().min(9);
         let put = buffers.put_frame(self.listens_in, &bytes[..arrived]);
+        let mut common = self.common.borrow_mut();
+        common.written.push((self.listens_in, bytes[..arrived].to_vec()));
         let length = bytes.len() as u16 + 2;
         assert_eq!(put, Some(arrived as u16));
         RadioEvent::Header {
@@ -269,9 +286,11 @@ impl TestRadio {
 
     fn enter(&mut self, task: RadioTask, buffers: &mut dyn Buffers) -> RadioEvent {
         let (result, entry) = (self.leave(buffers), LocalClockInstant::from_nanos(self.now));
+        self.common.borrow_mut().works_on = [buffer_of(task), None];
         match task {
             RadioTask::Tx { buffer, .. } if buffer != ACK && self.rng.chance(10) => {
                 self.doing = Doing::Off;
+                self.common.borrow_mut().works_on[0] = None;
                 let cause = self.rng.pick(&[Cause::Task, Cause::Scheduling(Timestamp::BestEffort)]);
                 return RadioEvent::Fallback { result, cause };
             }
@@ -297,7 +316,9 @@ impl TestRadio {
             Doing::Receiving(bytes, false, _) => {
                 let length = bytes.len() as u16;
                 assert_eq!(buffers.put_frame(self.listens_in, bytes), Some(length));
-                self.common.borrow_mut().received.clone_from(bytes);
+                let mut common = self.common.borrow_mut();
+                common.received.clone_from(bytes);
+                common.written.push((self.listens_in, bytes.clone()));
                 TaskResult::Rx(RxResult::Frame { length, time, quality })
             }
             _ => TaskResult::Off,
@@ -327,7 +348,9 @@ struct TestHost {
 }
 
 impl Host for TestHost {
-    fn next_request(&mut self, buffers: &mut dyn Buffers) -> Option<Request> {
+    fn next_request(&mut self, view: &mut HostView) -> Option<Request> {
+        reaches(view, &self.free, &self.common.borrow());
+        writes(view, &self.free);
         let Common { action, begun, .. } = *self.common.borrow();
         let of_host = action.is_none_or(|action| HostTask::of(action).is_some());
         assert!(of_host || begun, "the radio's part of {action:?} can be begun first");
@@ -337,29 +360,32 @@ impl Host for TestHost {
             return None;
         }
         self.common.borrow_mut().wants -= 1;
-        Some(self.request(buffers))
+        Some(self.request(view))
     }
 
-    fn answered(&mut self, answer: Answer, buffers: &dyn Buffers) {
+    fn answered(&mut self, answer: Answer, view: &HostView) {
         assert_eq!(self.due.pop_front(), Some(answer), "each answer of the reply, in its order");
         let request = self.open.remove(&answer.token).expect("what is answered has arrived");
         let received = matches!(answer.response, Response::Received(_));
         assert_eq!(received, request.task == Task::Rx);
         if let Response::Received(RxResult::Frame { .. }) = answer.response {
-            let frame = buffers.received(&answer).expect("it was received").frame;
+            let frame = view.received(&answer).expect("it was received").frame;
             assert_eq!(frame, self.common.borrow().received);
         }
         self.common.borrow_mut().meet("answer", &answer.response);
         self.returned(answer.buffer);
+        let due = self.due.iter().map(|answer| answer.buffer);
+        let free: Vec<u8> = self.free.iter().copied().chain(due).collect();
+        reaches(view, &free, &self.common.borrow());
     }
 
     fn refused(&mut self, request: Request, refusal: Refusal) {
         assert_eq!(self.wrong.take(), Some(refusal), "{request:?}");
     }
 
-    fn made(&mut self, call: &Call, result: &Result<Reply, Error>, service: &dyn Service) {
+    fn made(&mut self, call: &Call, result: &Result<Reply, Error>, view: &HostView) {
         assert!(self.due.is_empty(), "an answer of the last call was not given");
-        self.repeat(call, result, service);
+        self.repeat(call, result, view);
         if std::mem::take(&mut self.not_allowed) {
             assert_eq!(*call, Call::None, "after a Request that is refused by 9");
         }
@@ -394,24 +420,63 @@ impl Host for TestHost {
             self.open.insert(request.token, *request);
             self.free.retain(|buffer| *buffer != request.buffer);
         }
+        let mut free = self.free.clone();
+        free.extend(self.due.iter().map(|answer| answer.buffer));
+        if let (Call::Withdraw { token }, Ok(_)) = (call, result) {
+            free.push(self.open[token].buffer);
+        }
+        reaches(view, &free, &self.common.borrow());
+    }
+}
+
+const FIVE_BYTES: RxResult = RxResult::Frame {
+    length: 5,
+    time: LocalClockInstant::from_nanos(1),
+    quality: 0,
+};
+
+/// The host reaches these buffers, whole, by their frames and by an answer that names them, and no other, and none that the radio works
+/// on.
+fn reaches(view: &HostView, free: &[u8], common: &Common) {
+    for buffer in 0..=BUFFERS as u8 {
+        let is_free = free.contains(&buffer);
+        assert_eq!(view.is_held(buffer), !is_free && usize::from(buffer) < BUFFERS, "{buffer}");
+        assert!(!is_free || !common.works_on.contains(&Some(buffer)), "{buffer}");
+        let (frame, whole) = (view.frame(buffer), view.buffer(buffer));
+        assert_eq!(frame.is_some(), is_free, "{buffer}");
+        assert_eq!(frame, whole.and_then(|whole| whole[2..].first_chunk()), "{buffer}");
+        let received = view.received(&Answer::new(1, buffer, Response::Received(FIVE_BYTES)));
+        assert_eq!(
+            received.map(|received| received.frame),
+            frame.map(|frame| &frame[..5]),
+            "{buffer}"
+        );
+    }
+}
+
+/// The same of what it can write.
+fn writes(view: &mut HostView, free: &[u8]) {
+    for buffer in 0..=BUFFERS as u8 {
+        let is_free = free.contains(&buffer);
+        assert_eq!(view.frame_mut(buffer).is_some(), is_free, "{buffer}");
+        assert_eq!(view.buffer_mut(buffer).is_some(), is_free, "{buffer}");
+        assert!(is_free || view.put_frame(buffer, &[0xee]).is_none(), "{buffer}");
     }
 }
 
 impl TestHost {
     /// The same call on the second service, with the same bytes in the buffers: what it says, waits for and has in its line.
-    fn repeat(&mut self, call: &Call, result: &Result<Reply, Error>, service: &dyn Service) {
-        for buffer in (0..BUFFERS as u8).filter(|buffer| *buffer != ACK) {
-            let bytes = *service.frame(buffer).expect("the buffer is there");
-            self.second.put_frame(buffer, &bytes);
+    fn repeat(&mut self, call: &Call, result: &Result<Reply, Error>, view: &HostView) {
+        for (buffer, bytes) in std::mem::take(&mut self.common.borrow_mut().written) {
+            self.second.put_frame(buffer, &bytes).expect("the buffer is there");
         }
         assert_eq!(self.second.step(*call), *result, "{call:?}");
-        assert_eq!(self.second.wait(), service.wait());
+        assert_eq!(self.second.wait(), view.wait());
         assert!(self
             .second
             .waiting()
             .map(Some)
-            .eq(service.waiting().into_iter().filter(Option::is_some)));
-        assert_eq!(self.second.frame(ACK), service.frame(ACK));
+            .eq(view.waiting().into_iter().filter(Option::is_some)));
     }
 
     /// A buffer that was lent or exchanged for one that was.
@@ -421,7 +486,7 @@ impl TestHost {
     }
 
     /// A request with a free buffer, at times wrong in one place.
-    fn request(&mut self, buffers: &mut dyn Buffers) -> Request {
+    fn request(&mut self, view: &mut HostView) -> Request {
         let start = match self.rng.below(3) {
             0 => Timestamp::Scheduled(LocalClockInstant::from_nanos(self.rng.number() >> 8)),
             _ => Timestamp::BestEffort,
@@ -429,7 +494,7 @@ impl TestHost {
         let buffer = self.rng.pick(&self.free);
         self.tokens += 1;
         let task = if self.rng.chance(55) {
-            self.tx(buffer, buffers)
+            self.tx(buffer, view)
         } else {
             Task::Rx
         };
@@ -445,10 +510,11 @@ impl TestHost {
         request
     }
 
-    fn tx(&mut self, buffer: u8, buffers: &mut dyn Buffers) -> Task {
+    fn tx(&mut self, buffer: u8, view: &mut HostView) -> Task {
         let mut bytes = vec![self.rng.pick(&[0x61, 0x41]), 0x88];
         (0..1 + self.rng.below(30)).for_each(|_| bytes.push(self.rng.byte()));
-        let length = buffers.put_frame(buffer, &bytes).expect("a free buffer can be written");
+        let length = view.put_frame(buffer, &bytes).expect("a free buffer can be written");
+        self.common.borrow_mut().written.push((buffer, bytes.clone()));
         self.common.borrow_mut().lent.insert(buffer, bytes);
         let cca = self.rng.chance(50);
         Task::Tx { length, cca }
@@ -496,7 +562,11 @@ fn service() -> (DriverService<'static, BUFFERS>, Reply) {
 
 fn parts(seed: u64, common: Shared) -> (TestRadio, TestHost) {
     let mut rng = Rng::new(seed);
-    common.borrow_mut().wants = 0;
+    let met = common.take().met;
+    common.replace(Common {
+        met,
+        ..Common::default()
+    });
     let radio = TestRadio {
         rng: Rng::new(rng.number()),
         common: common.clone(),
@@ -534,6 +604,11 @@ fn check_rest(station: &Tested) {
     let (service, radio, host) = (station.service(), station.radio(), station.host());
     assert_eq!(service.state(), host.second.state(), "a call was not made known");
     assert_eq!(service.line(), host.second.line(), "a call was not made known");
+    assert_eq!(
+        service.pool().bytes(),
+        host.second.pool().bytes(),
+        "somebody wrote another byte"
+    );
     assert!(!host.not_allowed && host.due.is_empty() && host.wrong.is_none());
     let waits = service.waiting().count();
     let has_more = host.common.borrow().wants > 0 && !host.late && !host.free.is_empty();
@@ -586,11 +661,11 @@ fn host_wants(station: &mut Tested, rng: &mut Rng) {
 }
 
 fn arrives_unasked(station: &mut Tested) {
-    let (host, buffers) = station.host_mut();
+    let (host, mut view) = station.host_mut();
     if host.free.is_empty() {
         return;
     }
-    let request = host.request(buffers);
+    let request = host.request(&mut view);
     let full = host.second.waiting().count() == LINE_CAPACITY;
     // 6 to 8 come before 12, and 12 before 13.
     if full && matches!(host.wrong, None | Some(Refusal::TokenWaits)) {
@@ -765,7 +840,7 @@ struct Wrong {
 }
 
 impl Host for Wrong {
-    fn next_request(&mut self, _: &mut dyn Buffers) -> Option<Request> {
+    fn next_request(&mut self, _: &mut HostView) -> Option<Request> {
         self.asked += 1;
         assert!(self.asked < 1000, "it is asked without end");
         Some(Request {
@@ -776,7 +851,7 @@ impl Host for Wrong {
         })
     }
 
-    fn answered(&mut self, answer: Answer, _: &dyn Buffers) {
+    fn answered(&mut self, answer: Answer, _: &HostView) {
         panic!("{answer:?} of nothing");
     }
 
@@ -824,12 +899,12 @@ impl Radio for Noting {
 struct NotingHost(Notes, Vec<Request>);
 
 impl Host for NotingHost {
-    fn next_request(&mut self, _: &mut dyn Buffers) -> Option<Request> {
+    fn next_request(&mut self, _: &mut HostView) -> Option<Request> {
         self.0.borrow_mut().push("next_request");
         self.1.pop()
     }
 
-    fn answered(&mut self, _: Answer, _: &dyn Buffers) {
+    fn answered(&mut self, _: Answer, _: &HostView) {
         self.0.borrow_mut().push("answered");
     }
 
@@ -837,7 +912,7 @@ impl Host for NotingHost {
         self.0.borrow_mut().push("refused");
     }
 
-    fn made(&mut self, _: &Call, _: &Result<Reply, Error>, _: &dyn Service) {
+    fn made(&mut self, _: &Call, _: &Result<Reply, Error>, _: &HostView) {
         self.0.borrow_mut().push("made");
     }
 }

@@ -91,4 +91,11 @@ impl Service for Driver {
             Driver::Model(model) => Service::waiting(&**model),
         }
     }
+
+    fn is_held(&self, buffer: u8) -> bool {
+        match self {
+            Driver::Proved(service) => service.is_held(buffer),
+            Driver::Model(model) => model.is_held(buffer),
+        }
+    }
 }

@@ -80,6 +80,12 @@ impl Service for Model {
         let mut waiting = self.line.0.iter().map(request_of);
         [(); LINE_CAPACITY].map(|()| waiting.next())
     }
+
+    fn is_held(&self, buffer: u8) -> bool {
+        let settings = &self.state.settings;
+        let mut open = self.state.wait.open().into_iter().flatten();
+        buffer == settings.ack || buffer == settings.spare || open.any(|open| open.1 == buffer) || self.line.holds(buffer)
+    }
 }
 
 impl Buffers for Model {

@@ -166,11 +166,11 @@ impl Station {
 
     /// The host wants something. It arrives in the line at once, or is kept back while four wait.
     pub fn want(&mut self, wanted: Wanted) {
-        let (host, buffers) = self.station.host_mut();
+        let (host, mut view) = self.station.host_mut();
         if !host.kept_back.is_empty() {
             return host.kept_back.push_back(wanted);
         }
-        let request = host.request(wanted, buffers);
+        let request = host.request(wanted, &mut view);
         if let Err(error) = self.station.arrive(request) {
             assert_eq!(error, Error::Refused(Refusal::LineFull), "nothing else is wrong with it");
             let host = self.station.host_mut().0;
@@ -245,18 +245,18 @@ pub struct CraneHost {
 
 impl Host for CraneHost {
     /// What was kept back arrives as soon as there is room.
-    fn next_request(&mut self, buffers: &mut dyn Buffers) -> Option<Request> {
+    fn next_request(&mut self, view: &mut HostView) -> Option<Request> {
         let wanted = self.kept_back.pop_front()?;
-        Some(self.request(wanted, buffers))
+        Some(self.request(wanted, view))
     }
 
-    fn answered(&mut self, answer: Answer, buffers: &dyn Buffers) {
+    fn answered(&mut self, answer: Answer, view: &HostView) {
         let wanted = self.close(answer.token, answer.buffer);
         if matches!(answer.response, Response::Sent { .. }) {
             let sent = wanted.weighing();
             self.unacknowledged = self.unacknowledged.filter(|last| Some(*last) != sent);
         }
-        let frame = buffers.received(&answer).map(|received| received.frame.to_vec());
+        let frame = view.received(&answer).map(|received| received.frame.to_vec());
         self.journal.push(Entry::Answered(wanted, answer, frame));
         if wanted == Wanted::Receive && self.hub {
             self.kept_back.push_back(Wanted::Receive);
@@ -268,8 +268,8 @@ impl Host for CraneHost {
     }
 
     /// Notes the call and what came of it.
-    fn made(&mut self, call: &Call, result: &Result<Reply, Error>, service: &dyn Service) {
-        let waits: Vec<u32> = service.waiting().iter().flatten().map(|request| request.token).collect();
+    fn made(&mut self, call: &Call, result: &Result<Reply, Error>, view: &HostView) {
+        let waits: Vec<u32> = view.waiting().iter().flatten().map(|request| request.token).collect();
         let waited = std::mem::replace(&mut self.line, waits.clone());
         let token = match call {
             Call::Arrive(request) => Some(request.token),
@@ -282,7 +282,7 @@ impl Host for CraneHost {
             (Call::Entered { .. } | Call::Fallback { .. }, _) => self.unacknowledged = self.next.take().or(self.unacknowledged),
             _ => {}
         }
-        let wait = service.wait();
+        let wait = view.wait();
         self.journal.push(Entry::Made(Made {
             call: *call,
             concerns,
@@ -331,12 +331,12 @@ impl CraneHost {
     }
 
     /// The request for what is wanted, with a free buffer, and with its frame in it if it is to be sent.
-    fn request(&mut self, wanted: Wanted, buffers: &mut dyn Buffers) -> Request {
+    fn request(&mut self, wanted: Wanted, view: &mut HostView) -> Request {
         let buffer = self
             .free
             .pop()
             .expect("there are enough buffers for all that wait or are worked on");
-        let (start, task) = self.task_of(&wanted, buffer, buffers);
+        let (start, task) = self.task_of(&wanted, buffer, view);
         self.tokens += 1;
         let token = self.tokens;
         self.open.push((token, wanted));
@@ -349,7 +349,7 @@ impl CraneHost {
     }
 
     /// When it is to start and what is to be done. The frame of a Tx is written into the buffer.
-    fn task_of(&self, wanted: &Wanted, buffer: u8, buffers: &mut dyn Buffers) -> (Timestamp, Task) {
+    fn task_of(&self, wanted: &Wanted, buffer: u8, view: &mut HostView) -> (Timestamp, Task) {
         let (start, cca, frame) = match wanted {
             Wanted::Send(weighing) => (Timestamp::BestEffort, true, self.frame_of(weighing)),
             Wanted::SendAt(weighing, time) => (
@@ -360,7 +360,7 @@ impl CraneHost {
             Wanted::Report(number, charge) => (Timestamp::BestEffort, true, self.frame_to_hub(0x8841, *number, &[*charge])),
             Wanted::Receive => return (Timestamp::BestEffort, Task::Rx),
         };
-        let length = buffers.put_frame(buffer, &frame).expect("a free buffer holds the frame");
+        let length = view.put_frame(buffer, &frame).expect("a free buffer holds the frame");
         (start, Task::Tx { length, cca })
     }
 

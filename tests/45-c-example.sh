@@ -31,6 +31,7 @@ if [ ! -f "$library" ] || [ ! -f "$frames" ]; then
     echo "there is no $library or no $frames: tools/staticlib.sh driver_c frame_c builds them"
     exit 1
 fi
+rm -rf "$out/changed"
 mkdir -p "$out/changed"
 rm -f "$out"/*.h
 failed() {

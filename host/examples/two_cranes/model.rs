@@ -2,13 +2,20 @@
 //! rule loosened. Nothing of the model is altered for that: `loose` decides what the model is told.
 use crate::driver::BUFFERS;
 use crate::loose::Loose;
+use crossing::{instant, model_start, request, start, wait};
 use documents::calls as model;
-use documents::engine::{self, State};
 use documents::line::Line;
-use documents::settings::{self, BUFFER};
+use documents::settings::BUFFER;
+use engine::State;
 use std::ptr::NonNull;
 use widosha::*;
 
+pub use documents::{calls, engine, settings};
+
+// What the tests make of a wait, a request and a time is made of them here too.
+#[allow(dead_code)]
+#[path = "../../tests/common/crossing.rs"]
+mod crossing;
 #[path = "../../tests/model/mod.rs"]
 pub mod documents;
 
@@ -73,11 +80,11 @@ impl Service for Model {
     }
 
     fn wait(&self) -> Option<Wait> {
-        Some(wait_of(&self.state.wait))
+        Some(wait(&self.state.wait))
     }
 
     fn waiting(&self) -> [Option<Request>; LINE_CAPACITY] {
-        let mut waiting = self.line.0.iter().map(request_of);
+        let mut waiting = self.line.0.iter().map(request);
         [(); LINE_CAPACITY].map(|()| waiting.next())
     }
 
@@ -127,18 +134,11 @@ impl Buffers for Model {
 
 // ---- The crate's calls as the model's
 
-fn start_of(start: Timestamp) -> model::Start {
-    match start {
-        Timestamp::BestEffort => model::Start::BestEffort,
-        Timestamp::Scheduled(time) => model::Start::At(time.as_nanos()),
-    }
-}
-
 fn arrival_of(request: &Request) -> model::Request {
     let Request {
         token, buffer, start, ..
     } = *request;
-    let start = start_of(start);
+    let start = model_start(start);
     match request.task {
         Task::Tx { length, cca: check } => model::Request::Tx {
             token,
@@ -189,7 +189,7 @@ fn call_of(call: &Call) -> model::Call {
         Call::Request => model::Call::Request,
         Call::None => model::Call::None,
         Call::FrameStart => model::Call::FrameStart,
-        Call::OutboundSeen { start, cca } => model::Call::OutboundSeen(start_of(start), cca),
+        Call::OutboundSeen { start, cca } => model::Call::OutboundSeen(model_start(start), cca),
         Call::Stopped(StopResult::FrameStarted) => model::Call::Stopped(model::Stop::FrameStarted),
         Call::Stopped(StopResult::RxWindowEnded(result)) => model::Call::Stopped(model::Stop::WindowEnded(received_of(result))),
         Call::Stopped(StopResult::Failed) => model::Call::Stopped(model::Stop::Failed),
@@ -202,30 +202,6 @@ fn call_of(call: &Call) -> model::Call {
 }
 
 // ---- What the model says, as the crate's
-
-fn at(time: u64) -> LocalClockInstant {
-    LocalClockInstant::from_nanos(time)
-}
-
-fn timestamp_of(start: model::Start) -> Timestamp {
-    match start {
-        model::Start::BestEffort => Timestamp::BestEffort,
-        model::Start::At(time) => Timestamp::Scheduled(at(time)),
-    }
-}
-
-fn request_of(request: &model::Request) -> Request {
-    let task = match *request {
-        model::Request::Tx { length, check: cca, .. } => Task::Tx { length, cca },
-        model::Request::Rx { .. } => Task::Rx,
-    };
-    Request {
-        token: request.token(),
-        start: timestamp_of(request.start()),
-        buffer: request.buffer(),
-        task,
-    }
-}
 
 fn spacing_of(spacing: Option<settings::Spacing>) -> Spacing {
     match spacing {
@@ -244,8 +220,11 @@ fn action_of(action: &model::Action) -> Action {
         model::Action::AskOutbound => Action::TryReceiveRequest(TaskDirection::Outbound),
         model::Action::Listen => Action::Listen,
         model::Action::Stop => Action::Stop(StopListening::Now),
-        model::Action::StopAt(time) => Action::Stop(StopListening::At(at(time))),
-        model::Action::StopBefore(time, cca) => Action::Stop(StopListening::Before { start: at(time), cca }),
+        model::Action::StopAt(time) => Action::Stop(StopListening::At(instant(time))),
+        model::Action::StopBefore(time, cca) => Action::Stop(StopListening::Before {
+            start: instant(time),
+            cca,
+        }),
         model::Action::ReadHeader => Action::ReadHeader,
         model::Action::Tx {
             task,
@@ -255,13 +234,13 @@ fn action_of(action: &model::Action) -> Action {
             buffer: task.buffer,
             length: length as u8,
             cca,
-            start: timestamp_of(task.start),
+            start: start(task.start),
             spacing: spacing_of(task.spacing),
             rollback: task.rollback,
         },
         model::Action::Rx(task) => Action::Rx {
             buffer: task.buffer,
-            start: timestamp_of(task.start),
+            start: start(task.start),
             spacing: spacing_of(task.spacing),
             rollback: task.rollback,
         },
@@ -271,20 +250,20 @@ fn action_of(action: &model::Action) -> Action {
 
 fn answer_of(answer: model::Answer) -> Answer {
     let response = match answer.came_to {
-        model::CameTo::Sent(time) => Response::Sent { time: at(time) },
-        model::CameTo::Nack(time) => Response::Nack { time: at(time) },
+        model::CameTo::Sent(time) => Response::Sent { time: instant(time) },
+        model::CameTo::Nack(time) => Response::Nack { time: instant(time) },
         model::CameTo::Error(model::Cause::Scheduling) => Response::Error(Cause::Scheduling(Timestamp::BestEffort)),
         model::CameTo::Error(model::Cause::SchedulingAt(time)) => {
-            Response::Error(Cause::Scheduling(Timestamp::Scheduled(at(time))))
+            Response::Error(Cause::Scheduling(Timestamp::Scheduled(instant(time))))
         }
         model::CameTo::Error(model::Cause::Task) => Response::Error(Cause::Task),
         model::CameTo::Received(model::Received::Frame { length, time, quality }) => {
-            let time = at(time);
+            let time = instant(time);
             Response::Received(RxResult::Frame { length, time, quality })
         }
         model::CameTo::Received(model::Received::WindowEnded) => Response::Received(RxResult::RxWindowEnded),
         model::CameTo::Received(model::Received::CrcError { time, quality }) => {
-            let time = at(time);
+            let time = instant(time);
             Response::Received(RxResult::CrcError { time, quality })
         }
     };
@@ -310,45 +289,4 @@ fn refusal_of(number: u8) -> Error {
         13 => Refusal::TokenWaits,
         _ => panic!("the model refuses by {number}"),
     })
-}
-
-fn wait_of(wait: &engine::Wait) -> Wait {
-    match wait {
-        engine::Wait::Idle => Wait::Asking(Asked::Idle),
-        engine::Wait::AfterWindow(_) => Wait::Asking(Asked::AfterWindow),
-        engine::Wait::AfterAckWindow(..) => Wait::Asking(Asked::AfterAckWindow),
-        engine::Wait::Receiving(..) => Wait::Asking(Asked::Receiving),
-        engine::Wait::Sending(_) => Wait::Asking(Asked::Sending),
-        engine::Wait::SendingAck(_) => Wait::Asking(Asked::SendingAck),
-        engine::Wait::ReceivingAck(_) => Wait::Asking(Asked::ReceivingAck),
-        engine::Wait::Change(left, next) => Wait::Entering(Transition::Request(left_of(left), next_of(next))),
-        engine::Wait::Rearm(_) => Wait::Entering(Transition::Rearm),
-        engine::Wait::AckTurn(..) => Wait::Entering(Transition::AckTurn),
-        engine::Wait::TurnToAck(..) => Wait::Entering(Transition::AckWait),
-        engine::Wait::Listening(_) => Wait::Listening,
-        engine::Wait::StopForFrame(_) => Wait::Stopping(Stop::Frame),
-        engine::Wait::StopForOutbound(_) => Wait::Stopping(Stop::Outbound),
-        engine::Wait::StopForAck(_) => Wait::Stopping(Stop::Ack),
-        engine::Wait::StopForAckAgain(_) => Wait::Stopping(Stop::AckAgain),
-        engine::Wait::ReadingHeader(_) => Wait::Reading,
-    }
-}
-
-fn left_of(left: &engine::Left) -> Left {
-    match left {
-        engine::Left::Off => Left::Off,
-        engine::Left::Receiving(_) => Left::Receiving,
-        engine::Left::Sending(_) => Left::Sending,
-        engine::Left::SendingAck => Left::SendingAck,
-        engine::Left::ReceivingAck(_) => Left::ReceivingAck,
-    }
-}
-
-fn next_of(next: &engine::Next) -> Next {
-    match next {
-        engine::Next::Off => Next::Off,
-        engine::Next::Tx(_, None) => Next::Tx,
-        engine::Next::Tx(_, Some(_)) => Next::TxWithAck,
-        engine::Next::Rx(_) => Next::Rx,
-    }
 }

@@ -5,11 +5,11 @@ use crate::model::engine::{self, Wait as ModelWait};
 use crate::model::settings::Spacing as ModelSpacing;
 use widosha::*;
 
-fn instant(time: u64) -> LocalClockInstant {
+pub fn instant(time: u64) -> LocalClockInstant {
     LocalClockInstant::from_nanos(time)
 }
 
-fn start(start: model::Start) -> Timestamp {
+pub fn start(start: model::Start) -> Timestamp {
     match start {
         model::Start::BestEffort => Timestamp::BestEffort,
         model::Start::At(time) => Timestamp::Scheduled(instant(time)),
@@ -131,7 +131,7 @@ fn next_of(next: &engine::Next) -> Next {
     }
 }
 
-fn model_start(start: Timestamp) -> model::Start {
+pub fn model_start(start: Timestamp) -> model::Start {
     match start {
         Timestamp::BestEffort => model::Start::BestEffort,
         Timestamp::Scheduled(time) => model::Start::At(time.as_nanos()),

@@ -112,11 +112,13 @@
 //!
 //! | buffer | is the radio's | and it |
 //! |---|---|---|
-//! | of `Action::Tx` | from the call that gave the action to the call that tells `TaskResult::Sent`, or to the `fallback` or `rollback` that tells that it was not begun | reads the frame, `length` bytes after the headroom |
-//! | of `Action::Rx` | from the call that gave the action to the call that tells what receiving came to: `entered` or `fallback` with `TaskResult::Rx`, or `stopped` with `StopResult::RxWindowEnded`; after `rollback` it still is | writes the frame after the headroom |
+//! | of `Action::Tx` | from the call that gave the action to the call that tells that it was sent (`TaskResult::Sent`, once the Tx was entered), or to the `fallback` or `rollback` that tells that it was not begun | reads the frame, `length` bytes after the headroom |
+//! | of `Action::Rx` | from the call that gave the action to the call that tells what receiving in it came to: `entered` or `fallback` with `TaskResult::Rx`, or `stopped` with `StopResult::RxWindowEnded`, each after the `entered` of this Rx; after `rollback` it still is | writes the frame after the headroom |
 //!
 //! Headroom, the checksum's place behind the frame, and tailroom are the radio's with it. One buffer can be read and another be
-//! written at the same time, as where the ACK is made ready while the frame is still being received.
+//! written at the same time, as where the ACK is made ready while the frame is still being received. Where an Rx follows while a
+//! frame is still being received, the radio has the buffers of both: the `entered` of that Rx ends its turn with the one before, and
+//! with its own it begins to receive. No later action has the number of either.
 //!
 //! While the radio writes a buffer, **no reference to its bytes may live or be made**: neither `frame`, `frame_mut`, `put_frame`,
 //! `buffer`, `buffer_mut` and `received` of this buffer, nor `pool`, which is a reference to all of them. While it reads one,
@@ -128,7 +130,9 @@
 //! its hosts one too. The methods of [`DriverService`] and [`Buffers`] reach all buffers and are safe, since a radio without DMA
 //! copies what arrives by them; and a false event would give a buffer back that the radio still writes. So whoever lets a radio
 //! write by itself, in `unsafe` code, keeps the service to itself, and of a station `told`, `radio_mut`, `service` and `into_parts`,
-//! tells what the radio did, and answers for that. It need not answer for a host.
+//! tells what the radio did, and answers for that. It keeps the radio to itself too, or has it made by an `unsafe` function alone:
+//! [`Radio::begin`] is safe, as are [`Buffers`] and [`Service`], so that whoever has such a radio could have it write anywhere, or
+//! start a station over a pool that is gone before it. It need not answer for a host.
 //!
 //! **The end.** A service that is dropped or forgotten stops no radio, and the pool is its owner's again from the last use of the
 //! service on. So the pool of a radio that writes by itself is lent for `'static`, as below; one that is lent for less is safe only
@@ -152,13 +156,15 @@
 //! **Fences.** What the radio wrote has to be there before it is read, and what the host or the service wrote before the radio
 //! reads it:
 //!
-//! - After the radio has told by a register that bytes have arrived or a frame is whole, and before `header`, before `entered` or
-//!   `fallback` with `RxResult::Frame`, and before the frame is read: a fence with `Ordering::Acquire`.
+//! - After the radio has told by a register that bytes have arrived, or that it has done with a buffer, and before `header`, before
+//!   `entered` or `fallback` with any result but `TaskResult::Off`, and before `stopped` with `StopResult::RxWindowEnded`: a fence with
+//!   `Ordering::Acquire`. No call reads what a damaged frame or none left in a buffer; but the buffer goes back to a host, which may
+//!   read and write it, and a buffer that was sent may be written.
 //! - After `start`, `header` and whatever the host has written into a buffer or read of it, and before the register is written by
 //!   which the radio begins to send or to receive: a fence with `Ordering::Release`. It keeps what was written before the radio
 //!   reads it, and what was read of a returned buffer before the radio writes it.
-//! - Before `stopped`, `frame_start`, `outbound_seen`, `none`, `rollback`, `arrive` and `withdraw`: none. They read no byte, and
-//!   no answer that they give has a frame.
+//! - Before `stopped` with another outcome, `frame_start`, `outbound_seen`, `request`, `none`, `rollback`, `arrive` and `withdraw`:
+//!   none. They read no byte that a radio has written, and a buffer that they return is one with which it had done before.
 //!
 //! Registers are read and written by `read_volatile` and `write_volatile`, which alone order nothing but themselves. On x86-64,
 //! for which the libraries are made, `fence(Acquire)` and `fence(Release)` are no instruction and hold the compiler;

@@ -234,7 +234,8 @@ pub trait Host {
 
     /// A request that `next_request` gave is wrong by itself (refusals 6, 7, 8 and 13) and has not arrived. `next_request` is asked
     /// again, so it should not give the same once more. After 32 refusals in one turn it is asked in the next turn only, so that a
-    /// host that is always wrong does not keep an interrupt handler.
+    /// host that is always wrong does not keep an interrupt handler. While the service is idle that turn is `host_has_more`, `arrive`
+    /// or none.
     fn refused(&mut self, request: Request, refusal: Refusal);
 
     /// A call was made, by the radio, the host or the loop, with this result; its answers come after this. For logs.
@@ -378,8 +379,9 @@ impl<H: Host + ?Sized> Host for &mut H {
 /// # What is the port's, and what the host's
 ///
 /// `told`, `radio_mut`, `service` and `into_parts` are for whoever ports the service to a radio: they reach all buffers, or have the
-/// service do what is only right if the radio did so. Where the radio writes by itself, nobody else is given them. `host_mut`,
-/// `host_has_more`, `arrive` and `withdraw` are for the host, which reaches free buffers alone, there and in its own methods.
+/// service do what is only right if the radio did so. Where the radio writes by itself, nobody else is given them, nor such a radio
+/// for a station of their own. `host_mut`, `host_has_more`, `arrive` and `withdraw` are for the host, which reaches free buffers
+/// alone, there and in its own methods.
 ///
 /// A call needs at most 2,114 bytes of stack in the library, beside those of the loop, the radio and the host: docs/BENCHMARKS.md of
 /// the repository has that bound, and what each call takes.
@@ -421,7 +423,8 @@ impl<H: Host + ?Sized> Host for &mut H {
 /// `Radio::begin` may return it, and must not call the station: the loop goes on with it as if it were told. If it does not fit, the
 /// method that was called gives it back as its error; what was done before stands, the event of `told` included, and the radio owes
 /// the outcome of its task still. `Host::made` sees which call it was that was refused.
-/// As long as a radio has every outcome at once, the method does not return; listening is where a radio has none.
+/// As long as a radio has every outcome at once, the method does not return; listening is where a radio has none. While a Tx waits
+/// Listen is left out, so a radio whose stop has failed tells that later, and not at once again and again.
 #[derive(Debug)]
 pub struct Station<S, R, H> {
     service: S,
@@ -444,7 +447,8 @@ impl<'p, const N: usize, R: Radio, H: Host> Station<DriverService<'p, N>, R, H> 
 }
 
 impl<S: Service, R: Radio, H: Host> Station<S, R, H> {
-    /// A service that was started elsewhere, with the action that was its last.
+    /// A service that was started elsewhere, with the action that was its last. `Action::Nothing`, of a call on the line, is none:
+    /// with it the station would wait for nobody.
     pub fn new(service: S, action: Action, radio: R, host: H) -> Self {
         Self {
             service,
@@ -459,7 +463,8 @@ impl<S: Service, R: Radio, H: Host> Station<S, R, H> {
     ///
     /// An event that is refused is given back as the error, and nothing is changed: the radio owes an outcome of its task still. 5
     /// says that it is none of this task's; 10, that a frame or its arrived bytes have a wrong length (`RxResult`, `Call::Header`),
-    /// which depends on what others send, so that a port must have another outcome for it.
+    /// which depends on what others send, so that a port must have another outcome for it; 11, that an entry is at the end of 64 bits.
+    /// Where a radio has outcomes at once, the error may be that of a later one (above), and then this event was accepted.
     pub fn told(&mut self, event: RadioEvent) -> Result<(), Error> {
         self.make(event.into())?;
         self.go_on()
@@ -562,7 +567,7 @@ impl<S: Service, R: Radio, H: Host> Station<S, R, H> {
         }
     }
 
-    /// What the action asks of the host's side, until it asks for no more: three turns at most.
+    /// What the action asks of the host's side, until it asks for no more: two turns at most, as where Idle follows None.
     fn host_turns(&mut self) -> Result<(), Error> {
         while let Some(task) = HostTask::of(self.action) {
             self.fill()?;

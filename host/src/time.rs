@@ -2,8 +2,8 @@
 use core::fmt;
 use core::time::Duration;
 
-/// A time of the radio's own clock, in nanoseconds since that clock's zero. The service compares no two of them: it passes them on,
-/// and adds 10 microseconds to one, the entry into an ACK's wait.
+/// A time of the radio's own clock, in nanoseconds since that clock's zero. The service asks of no two which is earlier: it passes them
+/// on, sees whether OutboundSeen has the start of the Tx that waits, and adds 10 microseconds to one, the entry into an ACK's wait.
 ///
 /// ```
 /// use widosha::LocalClockInstant;

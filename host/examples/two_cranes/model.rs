@@ -95,6 +95,8 @@ impl Service for Model {
     }
 }
 
+/// Nothing here writes by itself, so the pointer, which is that of a shared reference, is to be read alone; and the ACK buffer, which
+/// `DriverService` gives nobody to write, is given.
 impl Buffers for Model {
     fn frame(&self, buffer: u8) -> Option<&[u8; FRAME_LENGTH]> {
         self.pool.get(self.frame_at(buffer)..)?.first_chunk()

@@ -24,7 +24,8 @@ static void put_frame(uint8_t buffer, const uint8_t *frame)
         to[at] = frame[at];
 }
 
-/* ---- The queue: the interrupt handler puts events in, the main loop takes them out */
+/* ---- The queue: the interrupt handler puts events in, the main loop takes them out. Where there are interrupts, they are held back while
+ * it does so. */
 
 static struct {
     struct widosha_loop_event events[2];

@@ -33,8 +33,9 @@
  *
  * The fence. The radio tells by a register that bytes are in the pool, and a call reads them as plain memory. Without a fence between
  * the two, compiler or core may read them before they were there. So the wrappers of header, entered and fallback begin with
- * WIDOSHA_FENCE(). The host puts one itself before it writes the register by which the radio begins a Tx or an Rx: what the host and
- * the calls have written is then there before the radio reads it, and what they have read before the radio writes over it.
+ * WIDOSHA_FENCE(), and that of stopped, after which a buffer that the radio wrote may be the host's. The host puts one itself before it
+ * writes the register by which the radio begins a Tx or an Rx: what the host and the calls have written is then there before the radio
+ * reads it, and what they have read before the radio writes over it.
  * As defined here the fence holds back the compiler alone. Where the core may reorder, define WIDOSHA_FENCE() before this header as
  * what the core has for it, as __DMB(). A data cache over the pool has to be cleaned and invalidated too, which no fence does; and as
  * 144 is no multiple of 32 or 64, neighbouring buffers have cache lines in common: to invalidate those of one drops what was just
@@ -237,6 +238,7 @@ WIDOSHA_MUST_USE static inline uint8_t widosha_host_outbound_seen(
 WIDOSHA_MUST_USE static inline uint8_t widosha_host_stopped(
     struct widosha_host *host, enum widosha_stop_outcome outcome, uint16_t length, uint64_t time, uint8_t quality)
 {
+    WIDOSHA_FENCE();
     return widosha_host_called(host, widosha_stopped((uint8_t)outcome, length, time, quality, WIDOSHA_HOST_SLICES(host)));
 }
 

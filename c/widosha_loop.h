@@ -8,11 +8,16 @@
  * there still when a stop is begun, as the host had something to send meanwhile. Then it is dropped when it is told, and the stop's
  * outcome is that a frame started.
  *
- * The two functions return 0 or the refusal of the call that was made last. A refused event was not the outcome of the task. */
+ * The two functions return 0, or the refusal of the event or of a call that followed from it (not of an arrival). A refused event has
+ * changed nothing, and the radio owes the outcome of its task still. 5 says that the event is none of this task; 10, that a length is
+ * one that no frame has, as 0 of a frame that is its checksum alone: this depends on what others send, so a port tells it as damaged. */
 #ifndef WIDOSHA_LOOP_H
 #define WIDOSHA_LOOP_H
 
 #include "widosha_host.h"
+
+/* How many requests of a host may be refused in one turn: as many as a pool can have buffers, so that a host may try each. */
+#define WIDOSHA_LOOP_REFUSED_IN_A_TURN WIDOSHA_COUNT_MOST
 
 enum widosha_loop_kind {
     WIDOSHA_LOOP_FRAME_START,
@@ -37,18 +42,22 @@ struct widosha_loop_event {
     uint8_t quality;
 };
 
-/* A started service with its radio and its host. None of the four makes a call. */
+/* A started service with its radio and its host. None of the four makes a call or comes back into the loop. Elsewhere the host may
+ * have requests arrive and withdraw them by itself, and calls widosha_loop_host_has_more after that; all other calls are the loop's. */
 struct widosha_loop {
     struct widosha_host *host;
     void *context; /* handed to each of the four */
-    /* The next request of the host: 1, or 0 if there is none. Asked as long as the line has room; a frame is written into its buffer. */
+    /* The next request of the host: 1, or 0 if there is none. Asked as long as the line has room. A frame is written into its buffer
+     * first, which has to be one that widosha_host_holds says 0 of. */
     int (*next_request)(void *context, struct widosha_host_arrival *arrival);
-    /* That request is wrong by itself and has not arrived. It must not come again as it is. */
+    /* That request is wrong by itself and has not arrived. It should not come again as it is: after 32 refusals in one turn the host is
+     * asked in the next turn only, so that one that is always wrong does not keep the loop. */
     void (*refused)(void *context, const struct widosha_host_arrival *arrival, uint8_t refusal);
     /* A request's answer; its buffer is the host's again. */
     void (*answered)(void *context, const struct widosha_host_answer *answer);
     /* Begins the task of the action that stands (listen, a stop, read the header, Tx, Rx, off) and returns at once. The radio listens
-     * from the entry into an Rx on: where a Tx waits already, a stop is begun after that, and listen is left out. */
+     * from the entry into an Rx on: where a Tx waits already, a stop is begun after that, and listen is left out. If a frame starts
+     * before the next task is begun, this is that task's outcome: that a frame starts or, of a stop, that one has started. */
     void (*begin)(void *context, const struct widosha_host *host);
     int begun; /* 1 once the action that stands is begun */
 };
@@ -67,15 +76,19 @@ static inline uint8_t widosha_loop_made(struct widosha_loop *loop, uint8_t refus
     return 0;
 }
 
-/* As many requests of the host arrive as there is room for. */
+/* As many requests of the host arrive as there is room for, until it has been wrong too often. */
 static inline void widosha_loop_fill(struct widosha_loop *loop)
 {
-    struct widosha_host_arrival arrival;
+    struct widosha_host_arrival arrival = {0, WIDOSHA_DIRECTION_TX, WIDOSHA_START_BEST_EFFORT, 0, 0, 0, 0};
+    unsigned wrong = 0;
     uint8_t refusal;
-    while (widosha_host_waiting(loop->host) < WIDOSHA_LINE_CAPACITY && loop->next_request(loop->context, &arrival)) {
+    while (wrong < WIDOSHA_LOOP_REFUSED_IN_A_TURN && widosha_host_waiting(loop->host) < WIDOSHA_LINE_CAPACITY
+        && loop->next_request(loop->context, &arrival)) {
         refusal = widosha_host_arrive(loop->host, &arrival);
-        if (refusal != 0)
+        if (refusal != 0) {
+            wrong++;
             loop->refused(loop->context, &arrival, refusal);
+        }
     }
 }
 
@@ -110,20 +123,26 @@ static inline uint8_t widosha_loop_turn(struct widosha_loop *loop, int *made)
     return 0;
 }
 
-/* The host has something new: requests arrive, and if the service waited for that, the radio begins what follows. So also after start. */
+/* The host has something new: requests arrive, and if the service waited for that, the radio begins what follows. So also after start.
+ * Where the action asks the host too, it was asked before: what arrived after that would not be seen. */
 WIDOSHA_MUST_USE static inline uint8_t widosha_loop_host_has_more(struct widosha_loop *loop)
 {
+    enum widosha_action action;
     uint8_t refusal;
     int made;
     do {
         refusal = widosha_loop_turn(loop, &made);
     } while (refusal == 0 && made);
-    if (refusal == 0 && !loop->begun && widosha_host_action(loop->host) != WIDOSHA_ACTION_RECEIVE_REQUEST) {
+    action = widosha_host_action(loop->host);
+    if (refusal != 0 || action == WIDOSHA_ACTION_RECEIVE_REQUEST)
+        return refusal;
+    if (!loop->begun) {
         loop->begun = 1;
         loop->begin(loop->context, loop->host);
     }
-    widosha_loop_fill(loop);
-    return refusal;
+    if (action != WIDOSHA_ACTION_LISTEN)
+        widosha_loop_fill(loop);
+    return 0;
 }
 
 /* The call of an event. */

@@ -253,8 +253,8 @@ while IFS= read -r change; do
 done <<'CHANGES'
 s/    loop->begun = 0;//
 s/        loop->begun = 1;//
-s/!loop->begun && //
-s/ && widosha_host_action(loop->host) != WIDOSHA_ACTION_RECEIVE_REQUEST//
+s/if (!loop->begun)/if (1)/
+s/refusal != 0 || action == WIDOSHA_ACTION_RECEIVE_REQUEST/refusal != 0/
 /^static inline uint8_t widosha_loop_made/,/^}/s/which = 0/which = 1/
 s/refusal == WIDOSHA_REFUSAL_NOT_ALLOWED ?/refusal == WIDOSHA_REFUSAL_UNFIT ?/
 s/if (widosha_host_earliest_tx(host, &tx))/if (0)/
@@ -273,6 +273,21 @@ s/    if (refusal != 0)/    if (0)/
 s/loop->answered(loop->context/loop->answered(NULL/
 s/loop->begin(loop->context/loop->begin(loop/
 s/next_request(loop->context/next_request(loop/
+s/loop->refused(loop->context/loop->refused(NULL/
+s/which < widosha_host_answers(loop->host)/which < 1 \&\& widosha_host_answers(loop->host)/
+s/REFUSED_IN_A_TURN WIDOSHA_COUNT_MOST/REFUSED_IN_A_TURN 33/
+s/ && widosha_host_waiting(loop->host) < WIDOSHA_LINE_CAPACITY//
+s/if (action != WIDOSHA_ACTION_LISTEN)/if (0)/
+s/if (action != WIDOSHA_ACTION_LISTEN)/if (1)/
+s/refusal != 0 || action == WIDOSHA_ACTION_RECEIVE_REQUEST/refusal != 0 || action <= WIDOSHA_ACTION_LISTEN/
+/ACTION_RECEIVE_REQUEST:/,/break/s/widosha_loop_fill(loop);//
+/ACTION_TRY_RECEIVE_REQUEST:/,/return/s/widosha_loop_fill(loop);//
+/ACTION_LISTEN:/,/break/s/widosha_loop_fill(loop);//
+s/action == WIDOSHA_ACTION_STOP_NOW || //
+s/event->outcome, event->length, /event->outcome, event->arrived, /
+s/event->cause, event->cause_time/event->cause, event->time/
+s/event->length, event->time, event->cause/event->length, event->cause_time, event->cause/
+s/event->cause_time, event->quality/event->cause_time, 0/
 CHANGES
-[ "$found" -ge 22 ] || failed "$found changes tried"
+[ "$found" -ge 37 ] || failed "$found changes tried"
 echo "each of $found changes of c/widosha_loop.h is found"

@@ -119,7 +119,7 @@ static const struct {
     {"none", {0}, 0},
     {"frame_start", {0}, 0},
     {"outbound_seen", {1, UINT64_C(0xf1e2d3c4b5a69788), 0xf6}, 0},
-    {"stopped", {4, 0xbcde, UINT64_C(0xf1e2d3c4b5a69788), 0xf6}, 0},
+    {"stopped", {4, 0xbcde, UINT64_C(0xf1e2d3c4b5a69788), 0xf6}, 1},
     {"header", {0xbcde, 0xcdef}, 1},
     {"entered", {3, 0xbcde, UINT64_C(0xf1e2d3c4b5a69788), UINT64_C(0xfedcba9876543210), 0xf6}, 1},
     {"fallback", {4, 0xbcde, UINT64_C(0xf1e2d3c4b5a69788), 2, UINT64_C(0xfedcba9876543210), 0xab}, 1},

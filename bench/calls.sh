@@ -1,5 +1,5 @@
 #!/usr/bin/env bash
-# Measures the exported functions over the mixed round of host/examples/bench_calls.rs: time, instructions and stack.
+# Measures the exported functions over the mixed round of host/examples/bench_calls.rs: time, instructions, where these go, and stack.
 # RUST_SRC and ORACLE are as for tests/32-engine-oracle.sh; with both at hand the Rust service is counted too.
 set -euo pipefail
 cd "$(dirname "${BASH_SOURCE[0]}")/.."
@@ -38,6 +38,15 @@ echo "== the same with three requests more in the waiting line"
 inside waiting
 echo "== instructions of the header reader, over five frames, $rounds times"
 inside facts
+
+echo "== where the instructions of the round's accepted calls go, and the same calls on 32 bits, by a rule of thumb (bench/split.py)"
+if command -v objdump >/dev/null && command -v nm >/dev/null && [ "$(uname -sm)" = "Linux x86_64" ]; then
+    "$bench" --trace >"$out/traces.txt"
+    python3 -B bench/split.py parts "$bench" "$out/traces.txt"
+    python3 -B bench/split.py narrow "$bench" "$out/traces.txt"
+else
+    echo "not counted: it needs objdump, nm, Linux and x86-64"
+fi
 
 echo "== stack: an upper bound for all inputs, added up from the library's machine code (bench/stack.py)"
 if command -v objdump >/dev/null && [ "$(uname -m)" = x86_64 ]; then

@@ -1,4 +1,5 @@
-# The C header, the source, the host crate's declarations and docs/LAYOUTS.md declare the same functions, and the header is C and C++.
+# The C header, the source, the host crate's declarations and docs/LAYOUTS.md declare the same functions; they and the definitions in
+# specs give every code the same number, and they and c/widosha_host.h every refusal the same sentence. The header is C and C++.
 set -e
 if ! command -v python3 >/dev/null; then
     echo "there is no python3"

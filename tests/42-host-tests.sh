@@ -28,7 +28,7 @@ status=$?
 if [ "$status" -ne 0 ]; then
     cat "$log"
 else
-    grep -E '^(random|boundaries|line|quality|slices|damaged|facts|fcs|capture):|^  (accepted|refused)' "$log"
+    grep -E '^(random|boundaries|line|quality|slices|alignment|damaged|dma|facts|fcs|station|capture):|^  (accepted|refused)' "$log"
 fi
 awk '/^test result: / { passed += $4; failed += $6 }
      END { printf "42-host-tests: %d tests passed, %d failed\n", passed, failed }' "$log"
@@ -37,7 +37,7 @@ if [ "$status" -ne 0 ]; then
     exit 1
 fi
 # A suite that ran nothing has not passed.
-for test in random boundaries line quality slices damaged facts fcs capture; do
+for test in random boundaries line quality slices alignment damaged dma facts fcs station capture; do
     if ! grep -q "^$test: [0-9a-z]" "$log"; then
         echo "42-host-tests: failed, $test printed no counts"
         exit 1

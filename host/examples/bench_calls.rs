@@ -8,7 +8,13 @@
 //!     bench_calls --accepted N the same as --count with one start and, N times, the accepted calls of a round
 //!     bench_calls --script N   prints those in the language of the script runner of the Rust service, which has a queue of its own:
 //!                              a request is in it where it leaves our line
+//!     bench_calls --trace      makes one round, and prints the instructions of each accepted call by their addresses, beside those
+//!                              of the same call with a byte of state or line spoilt: where the ways part, that part had been read
 //!     bench_calls --facts N    reads the facts of five frames N times, and once each time into a slice of a wrong length
+
+#[path = "../../bench/steps.rs"]
+#[allow(dead_code)]
+mod steps;
 
 use std::fmt::Write;
 use std::time::Instant;
@@ -29,6 +35,22 @@ const NAMES: [&str; 12] = [
     "entered",
     "fallback",
     "rollback",
+];
+
+/// The functions, in the order of their names.
+const ENTRIES: [*const (); 12] = [
+    widosha_start as *const (),
+    widosha_arrive as *const (),
+    widosha_withdraw as *const (),
+    widosha_request as *const (),
+    widosha_none as *const (),
+    widosha_frame_start as *const (),
+    widosha_outbound_seen as *const (),
+    widosha_stopped as *const (),
+    widosha_header as *const (),
+    widosha_entered as *const (),
+    widosha_fallback as *const (),
+    widosha_rollback as *const (),
 ];
 
 /// The numbers of one call, by function. A start is a time or none.
@@ -74,6 +96,7 @@ struct Step {
     returns: u8,
 }
 
+#[derive(Clone)]
 struct Memory {
     state: [u8; STATE_LENGTH],
     line: [u8; LINE_LENGTH],
@@ -476,6 +499,35 @@ fn facts(rounds: u32) {
     println!("widosha_preliminary_frame_info {} {rounds}", FRAMES.len() as u32 * rounds);
 }
 
+/// What is spoilt, and where: the count (no settings have 0 buffers), the last byte of the state and of the line, which are always 0.
+const SPOILT: [(&str, Option<usize>); 4] = [
+    ("whole", None),
+    ("settings", Some(0)),
+    ("state", Some(STATE_LENGTH - 1)),
+    ("line", Some(STATE_LENGTH + LINE_LENGTH - 1)),
+];
+
+fn trace(memory: &mut Memory, round: &[Step]) {
+    steps::begin();
+    for step in round {
+        let name = NAMES[function(step.numbers)];
+        for (what, at) in SPOILT {
+            let mut twin = memory.clone();
+            match at {
+                Some(at) if at < STATE_LENGTH => twin.state[at] ^= twin.state[at].max(1),
+                Some(at) => twin.line[at - STATE_LENGTH] = 1,
+                None => {}
+            }
+            let (returned, trace) = steps::trace(ENTRIES[function(step.numbers)] as usize, || twin.make(step));
+            if step.returns == 0 && name != "start" {
+                assert_eq!(returned, u8::from(at.is_some()), "{name}, {what} spoilt");
+                println!("{name} {what} {}", trace.words());
+            }
+        }
+        assert_eq!(memory.make(step), step.returns);
+    }
+}
+
 fn time(memory: &mut Memory, steps: &[Step]) {
     check(memory, steps);
     let once = || {
@@ -526,7 +578,8 @@ fn main() {
                 .for_each(|step| print!("{}", script(step, &mut waiting)));
         }
         (Some("--facts"), Some(rounds)) => facts(rounds),
+        (Some("--trace"), None) => trace(&mut memory, &steps),
         (None, None) => time(&mut memory, &steps),
-        _ => panic!("bench_calls [--count N | --waiting N | --accepted N | --script N | --facts N]"),
+        _ => panic!("bench_calls [--count N | --waiting N | --accepted N | --script N | --trace | --facts N]"),
     }
 }

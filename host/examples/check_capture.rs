@@ -14,7 +14,7 @@ use reader::{Frame, Reader};
 use std::ffi::OsStr;
 use std::io::{self, BufWriter, ErrorKind, Read, Write};
 use std::process::ExitCode;
-use widosha::Refusal;
+use widosha::{Error, Refusal};
 
 /// How many frames had which answer, and of how many the capture did not keep all bytes.
 #[derive(Default)]
@@ -94,14 +94,13 @@ fn verdict(bytes: &[u8], counts: &mut Counts) -> String {
             let [low, high] = widosha::fcs(rest);
             format!("no: it ends in {first:02x} {second:02x}, right would be {low:02x} {high:02x}")
         }
-        Err(refusal) => {
+        Err(error) => {
             counts.refused += 1;
-            let why = match refusal {
-                Refusal::FrameLength if bytes.len() < 3 => ": under 3 bytes",
-                Refusal::FrameLength => ": over 127 bytes",
-                _ => "",
-            };
-            format!("refused ({}){why}", refusal.number())
+            match error {
+                Error::Refused(Refusal::FrameLength) if bytes.len() < 3 => "refused (14): under 3 bytes".to_owned(),
+                Error::Refused(Refusal::FrameLength) => "refused (14): over 127 bytes".to_owned(),
+                _ => format!("refused: {error}"),
+            }
         }
     }
 }

@@ -4,12 +4,32 @@
 //! From the second scene to the sixth crane A's frame is lost, and an acknowledgement of crane B arrives where cell A waits for its
 //! own. A hub knows no cell: it names the one that weighed a box as the header of the received frame does. In the seventh the
 //! port's coordinator broadcasts the time, and four cells hear it. In the eighth a cell fills its waiting line. Each frame that is
-//! received has a link quality; by these the last table names the aerial that is bent. The program checks what it tells: it ends
-//! with an error if an answer, a mass, a cell, a time, a link quality, what waits in a line or what is on the air is not the
-//! expected one.
+//! received has a link quality; by these the last table names the aerial that is bent. Scenes 1 to 6 are run again with other drivers
+//! in every station: a model of the documents, which has to make the same calls, and the same with one rule loosened; what these come
+//! to is the first table. The program checks what it tells: it ends with an error if an answer, a mass, a cell, a time, a link
+//! quality, what waits in a line or what is on the air is not the expected one.
+//!
+//!     two_cranes [-v] [--pcap FILE]
+//!
+//! It prints each frame and each answer; with -v the calls too. With --pcap the frames are written as a capture. Ends with 2 if it
+//! is called otherwise, or if the capture or the lines cannot be written.
 
 #[path = "two_cranes/air.rs"]
 mod air;
+#[path = "two_cranes/arguments.rs"]
+mod arguments;
+#[path = "two_cranes/capture.rs"]
+mod capture;
+#[path = "two_cranes/driver.rs"]
+mod driver;
+#[path = "two_cranes/loose.rs"]
+mod loose;
+#[path = "two_cranes/model.rs"]
+mod model;
+#[path = "two_cranes/output.rs"]
+mod output;
+#[path = "two_cranes/radio.rs"]
+mod radio;
 #[path = "two_cranes/station.rs"]
 mod station;
 #[path = "two_cranes/words.rs"]
@@ -19,10 +39,18 @@ mod world;
 
 use air::Who::{self, CellA, CellB, CellC, CellD, HandsetB, HubA, HubB, Port, ReaderB};
 use air::{Air, MICROSECOND};
-use station::{Heard, Link, Sender, Station, Told, Wanted, Weighed, Weighing};
-use widosha::{Address, Asked, Call, PreliminaryFrameInfo, Response, Wait};
+use arguments::Arguments;
+use loose::{Ignores, Loose};
+use model::Model;
+use output::line;
+use station::{Heard, Link, Sender, Station, Told, Wanted, Weighed, Weighing, ACK_BUFFER};
+use std::env;
+use std::io;
+use std::path::Path;
+use std::process::ExitCode;
+use widosha::{Address, Asked, Buffers, Call, PreliminaryFrameInfo, Refusal, Response, Wait};
 use words::tonnes;
-use world::{sender_of, Event, Show, World, TURNAROUND};
+use world::{sender_of, Event, Show, Tells, World, TURNAROUND};
 
 /// A container: its name, the mass that the shipper declared and the mass that the cell weighs, in kilograms.
 struct Container(&'static str, u32, u32);
@@ -62,7 +90,7 @@ fn strangers(world: &mut World, number: u8, microseconds: u64, reader: &[u8]) {
 }
 
 fn title(text: &str) {
-    println!("\n{text}");
+    line!("\n{text}");
 }
 
 /// The answers of this container's request so far, in order: S for Sent, N for Nack, E for an error.
@@ -76,20 +104,50 @@ fn answers(world: &World, container: &str) -> String {
     of_container.map(|(_, _, response)| letter(response)).collect()
 }
 
+/// What happens in scenes 1 to 6, by number.
+fn happens(world: &mut World, scene: u64) {
+    match scene {
+        1 => {
+            weigh(world, 0, CellA, "A1", 0x40);
+            weigh(world, 400, CellB, "B1", 0x3f);
+        }
+        2 => {
+            weigh(world, 0, CellB, "B2", 0x40);
+            weigh(world, 2, CellA, "A2", 0x41);
+        }
+        3 => {
+            weigh(world, 0, CellA, "A3", 0x42);
+            strangers(world, 0x42, 1_124, &[0x12, 0x00, 0x42]);
+        }
+        4 => {
+            weigh(world, 0, CellA, "A4", 0x43);
+            strangers(world, 0x43, 1_124, &[0x02, 0x00, 0x43, 0x00]);
+        }
+        5 => {
+            weigh(world, 0, CellA, "A5", 0x44);
+            world.plan_event(500, Event::Want(CellA, Wanted::Receive));
+            strangers(world, 0x44, 1_360, &[0x02, 0x00, 0x44]);
+        }
+        6 => {
+            weigh(world, 0, CellA, "A6", 0x45);
+            strangers(world, 0x45, 1_124, &[0x02, 0x00, 0x45]);
+        }
+        _ => panic!("the first six are run with other drivers too"),
+    }
+}
+
 fn quiet_exchange(world: &mut World) {
     title("1. Crane A alone, then crane B. Box A1: 18.0 t by the shipper, 18.2 t on the hook.");
-    world.scene(Show::AllCallsOf(CellA));
-    weigh(world, 0, CellA, "A1", 0x40);
-    weigh(world, 400, CellB, "B1", 0x3f);
+    world.scene(1, Show::AllCallsOf(CellA));
+    happens(world, 1);
     world.run();
     assert_eq!((answers(world, "A1"), answers(world, "B1")), ("S".into(), "ES".into()));
 }
 
 fn one_bit(world: &mut World) {
     title("2. Both spreaders lock within 2 microseconds. Cell A waits for number 41, hub B acknowledges 40: one bit.");
-    world.scene(Show::AllCallsOf(CellA));
-    weigh(world, 0, CellB, "B2", 0x40);
-    weigh(world, 2, CellA, "A2", 0x41);
+    world.scene(2, Show::AllCallsOf(CellA));
+    happens(world, 2);
     world.run();
     assert_eq!((answers(world, "A2"), answers(world, "B2")), ("NS".into(), "S".into()));
 }
@@ -98,41 +156,36 @@ fn pending_bit(world: &mut World) {
     title(
         "3. A reader of another make acknowledges the same number, 42, with the pending bit set (12 00): for document 01 no ACK.",
     );
-    world.scene(Show::CallsOfAckWait(CellA));
-    weigh(world, 0, CellA, "A3", 0x42);
-    strangers(world, 0x42, 1_124, &[0x12, 0x00, 0x42]);
+    world.scene(3, Show::CallsOfAckWait(CellA));
+    happens(world, 3);
     world.run();
     assert_eq!(answers(world, "A3"), "NS");
 }
 
 fn four_bytes(world: &mut World) {
     title("4. The reader sends the right three bytes and a fourth one.");
-    world.scene(Show::CallsOfAckWait(CellA));
-    weigh(world, 0, CellA, "A4", 0x43);
-    strangers(world, 0x43, 1_124, &[0x02, 0x00, 0x43, 0x00]);
+    world.scene(4, Show::CallsOfAckWait(CellA));
+    happens(world, 4);
     world.run();
     assert_eq!(answers(world, "A4"), "NS");
 }
 
 fn wrong_wait(world: &mut World) {
     title("5. A perfect ACK for 44, but 230 microseconds too late: cell A is in another wait by then, listening for orders.");
-    world.scene(Show::AllCallsOf(CellA));
-    weigh(world, 0, CellA, "A5", 0x44);
-    world.plan_event(500, Event::Want(CellA, Wanted::Receive));
-    strangers(world, 0x44, 1_360, &[0x02, 0x00, 0x44]);
+    world.scene(5, Show::AllCallsOf(CellA));
+    happens(world, 5);
     world.run();
     assert_eq!(answers(world, "A5"), "NS");
 }
 
 fn same_number(world: &mut World) {
     title("6. What no driver can tell: the same number, 45, three bytes, within the same 10 microseconds.");
-    world.scene(Show::CallsOfAckWait(CellA));
-    weigh(world, 0, CellA, "A6", 0x45);
-    strangers(world, 0x45, 1_124, &[0x02, 0x00, 0x45]);
+    world.scene(6, Show::CallsOfAckWait(CellA));
+    happens(world, 6);
     world.run();
     assert_eq!(answers(world, "A6"), "S");
     assert!(!world.plan.contains_key("A6"));
-    println!(
+    line!(
         "        The standard's ACK has no address. Hub A never had box A6, and no driver that follows the standard can know it."
     );
 }
@@ -152,13 +205,12 @@ const CELLS: [(Who, u16, u16); 4] = [
     (CellD, 0xD00D, 0x0D01),
 ];
 
-/// Gives how well everyone was heard.
-fn time_broadcast() -> Vec<Link> {
+fn time_broadcast(tells: Tells) -> World {
     title("7. The port's coordinator broadcasts the time and requests an ACK. The cells of four cranes hear it, and none replies.");
     let mut stations = Vec::from(CELLS.map(|(who, pan, address)| Station::new(who, pan, address)));
     stations.push(Station::new(HubA, 0xA00A, 0x0A00));
-    let mut world = World::new(stations);
-    world.scene(Show::AllCallsOf(CellA));
+    let mut world = World::new(stations, tells);
+    world.scene(7, Show::AllCallsOf(CellA));
     for (cell, ..) in CELLS {
         world.plan_event(0, Event::Want(cell, Wanted::Receive));
     }
@@ -168,7 +220,7 @@ fn time_broadcast() -> Vec<Link> {
     check_told(&world);
     let instead = acks_of_the_rust(&world.told);
     weigh_right_after(&mut world, &instead);
-    world.links
+    world
 }
 
 /// Every cell was told the time, by whom, and has written nothing into its ACK's frame.
@@ -180,7 +232,7 @@ fn check_told(world: &World) {
         assert_eq!(sender_of(&told.info), Sender { pan, address });
     }
     for station in &world.stations {
-        let ack = station.driver.frame(station.driver.settings().ack_buffer);
+        let ack = station.driver().frame(ACK_BUFFER);
         assert_eq!(ack.map(|frame| &frame[..3]), Some(&[0x02, 0x10, 0x00][..]));
     }
 }
@@ -196,19 +248,19 @@ fn ack_of_the_rust(info: &PreliminaryFrameInfo) -> Option<[u8; 3]> {
 /// The air as the Rust would have it after the broadcast: each ACK begins the ACK spacing after the frame has arrived.
 fn acks_of_the_rust(told: &[Told]) -> Air {
     let mut air = Air::default();
-    println!("        By the Rust's rule (for us, request bit, number), on the same facts, each of them would have sent an ACK:");
+    line!("        By the Rust's rule (for us, request bit, number), on the same facts, each of them would have sent an ACK:");
     for Told { who, info, arrived, .. } in told {
         let ack = ack_of_the_rust(info).expect("the broadcast has the request bit and a number");
         assert_eq!(ack, [0x02, 0x10, 0x07]);
         let begin = arrived + TURNAROUND;
-        println!("{:>6}  ({})  {}", begin / MICROSECOND, who.name(), words::hex(&ack));
+        line!("{:>6}  ({})  {}", begin / MICROSECOND, who.name(), words::hex(&ack));
         air.send(*who, begin, ack.to_vec());
     }
     for (id, frame) in air.frames.iter().enumerate() {
         assert_eq!(frame.begin, air.frames[0].begin, "all in the same microsecond");
         assert!([Port, HubA].iter().all(|to| air.spoiled(id, *to)), "over one another");
     }
-    println!("        Four in the same microsecond, over one another: none arrives whole, and none says whose it is.");
+    line!("        Four in the same microsecond, over one another: none arrives whole, and none says whose it is.");
     air
 }
 
@@ -224,9 +276,7 @@ fn weigh_right_after(world: &mut World, instead: &Air) {
     world.plan_event(1_050, Event::Want(HubA, Wanted::Receive));
     world.plan_event(1_240, Event::Want(CellA, Wanted::Send(weighing)));
     assert!(instead.is_busy(1_240 * MICROSECOND, CellA));
-    println!(
-        "        Hub A now listens, and cell A weighs a box at 1240. Its channel check finds the air free, not four ACKs on it:"
-    );
+    line!("        Hub A now listens, and cell A weighs a box at 1240. Its channel check finds the air free, not four ACKs on it:");
     world.run();
     assert_eq!(answers(world, container), "S");
     let by = world.stations[0].as_sender();
@@ -256,11 +306,11 @@ const LINE_OF_B: [(&str, u8, &str); 16] = [
     ("None: no request waits", 0, ""),
 ];
 
-fn full_line() {
+fn full_line(tells: Tells) -> World {
     title("8. Cell B was out of hearing. Four wait, a fifth is told 12, one is withdrawn, and box B4 passes B3, which has a time.");
     let stations = vec![Station::new(HubB, 0xB00B, 0x0B00), Station::new(CellB, 0xB00B, 0x0B01)];
-    let mut world = World::new(stations);
-    world.scene(Show::AllCallsOf(CellB));
+    let mut world = World::new(stations, tells);
+    world.scene(8, Show::AllCallsOf(CellB));
     let box_of = |container, kilograms, number| Weighing {
         container,
         kilograms,
@@ -285,12 +335,13 @@ fn full_line() {
     world.run();
     check_line(&world);
     check_left(&world, [b4, b3, b6]);
-    println!(
+    line!(
         "        While it sends the report, which wants no ACK, only what has no time may follow: box B4 passed B3, which left at"
     );
-    println!(
+    line!(
         "        the next ask and had its time. Box B5 was set down again and never was on the air; its place was free for box B6."
     );
+    world
 }
 
 /// The line of cell B after each call that it decides, and the wait in which box B4 passed box B3.
@@ -301,7 +352,9 @@ fn check_line(world: &World) {
     let found: Vec<(String, u8, String)> = calls
         .map(|(_, made)| {
             let line: Vec<String> = made.line.iter().map(|wanted| words::wanted_by(wanted, since)).collect();
-            let returned = made.result.map_or_else(|refusal| refusal.number(), |_| 0);
+            let returned = made
+                .result
+                .map_or_else(|error| error.refusal().map_or(255, Refusal::number), |_| 0);
             (words::call(made, since), returned, line.join(", "))
         })
         .collect();
@@ -345,10 +398,61 @@ fn check_left(world: &World, boxes: [Weighing; 3]) {
     );
     assert_eq!((world.plan.get("B5"), answers(world, "B5")), (None, String::new()));
     assert_eq!(world.charges, [(cell.as_sender(), 71)]);
-    assert!(cell.open.is_empty(), "every other request is answered");
+    assert!(cell.host().open.is_empty(), "every other request is answered");
 }
 
-// ---- The second evaluation. All rules but the first are deliberately wrong and are nowhere in the driver.
+// ---- Scenes 1 to 6 once more, with other drivers: a model of the documents, and the same with one rule loosened.
+
+/// The four stations of the two cranes.
+fn cranes(station: impl Fn(Who, u16, u16) -> Station) -> Vec<Station> {
+    vec![
+        station(HubA, 0xA00A, 0x0A00),
+        station(CellA, 0xA00A, 0x0A01),
+        station(HubB, 0xB00B, 0x0B00),
+        station(CellB, 0xB00B, 0x0B01),
+    ]
+}
+
+/// The hubs receive, before the first scene.
+fn open(world: &mut World) {
+    for hub in [HubA, HubB] {
+        world.plan_event(0, Event::Want(hub, Wanted::Receive));
+    }
+    world.run();
+}
+
+/// The same scenes where every station's driver is the model, and ignores this.
+fn run_of(ignores: Ignores) -> World {
+    let model = |settings| Model::start(settings, Loose::of(ignores));
+    let stations = cranes(|who, pan, address| Station::of_model(who, pan, address, model));
+    let mut world = World::new(stations, Tells::Nothing);
+    open(&mut world);
+    for scene in 1..=6 {
+        world.scene(scene, Show::Nothing);
+        happens(&mut world, scene);
+        world.run();
+    }
+    world
+}
+
+/// The model with no rule loosened does what the proved driver does, call by call.
+fn check_model(world: &World) {
+    let model = run_of(Ignores::Nothing);
+    assert_eq!(model.calls.len(), world.calls.len());
+    for ((who, made), (of_model, same)) in world.calls.iter().zip(&model.calls) {
+        assert_eq!((who, made.call, made.result), (of_model, same.call, same.result));
+        assert_eq!(
+            (made.wait, &made.line),
+            (same.wait, &same.line),
+            "after {:?} of {}",
+            made.call,
+            who.name()
+        );
+    }
+    assert_eq!(model.plan, world.plan);
+}
+
+// ---- The same rules, applied to what the cells of the proved driver heard: what the runs come to is no accident of their times.
 
 type Rule = fn(&Heard) -> bool;
 
@@ -376,11 +480,11 @@ fn loose_any_wait(heard: &Heard) -> bool {
     heard.bytes.len() == 3 && control(heard) & 0xEFFF == 2 && heard.bytes[2] == heard.weighing.number
 }
 
-const RULES: [(Rule, &str, &str); 4] = [
-    (loose_lowest_bit, "A2", "the number's lowest bit"),
-    (loose_pending_bit, "A3", "the pending bit"),
-    (loose_length, "A4", "the length"),
-    (loose_any_wait, "A5", "which wait it is in"),
+const RULES: [(Ignores, Rule, &str, &str); 4] = [
+    (Ignores::LowestBit, loose_lowest_bit, "A2", "the number's lowest bit"),
+    (Ignores::PendingBit, loose_pending_bit, "A3", "the pending bit"),
+    (Ignores::Length, loose_length, "A4", "the length"),
+    (Ignores::Wait, loose_any_wait, "A5", "which wait it is in"),
 ];
 
 /// Whether a cell with this rule drops the container's weighing before the plan has it: at the first frame that it takes for the ACK.
@@ -390,10 +494,10 @@ fn loses(world: &World, rule: Rule, container: &str) -> bool {
     taken.next().is_some_and(|first| !first.in_plan)
 }
 
-fn show_plan(world: &World) {
+fn show_plan(world: &World, loose: &[World; 4]) {
     title("What the plan has of scenes 1 to 6, in tonnes; ! marks a box that keeps the shipper's mass");
-    println!("                         this   the same driver, loose in one place, which ignores");
-    println!("box  shipper  weighed  driver   lowest bit  pending bit  length   wait");
+    line!("                         this   a model of it, loose in one place, which ignores");
+    line!("box  shipper  weighed  driver   lowest bit  pending bit  length   wait");
     for Container(name, shipper, weighed) in CONTAINERS {
         let cell = |lost: bool| {
             format!(
@@ -402,32 +506,31 @@ fn show_plan(world: &World) {
                 if lost { '!' } else { ' ' }
             )
         };
-        let [bit, pending, length, wait] = RULES.map(|(rule, _, _)| cell(loses(world, rule, name)));
+        let [bit, pending, length, wait] = loose.each_ref().map(|other| cell(!other.plan.contains_key(name)));
         let this = cell(!world.plan.contains_key(name));
         let (shipper, weighed) = (tonnes(shipper), tonnes(weighed));
         let row = format!("{name:<3}  {shipper:>7}  {weighed:>7}  {this:>8} {bit:>11} {pending:>12} {length:>7} {wait:>8}");
-        println!("{}", row.trim_end());
+        line!("{}", row.trim_end());
     }
 }
 
-fn show_losses(world: &World) {
-    println!();
-    for (rule, container, what) in RULES {
+fn show_losses(world: &World, loose: &[World; 4]) {
+    line!("");
+    for ((_, rule, container, what), other) in RULES.into_iter().zip(loose) {
         let known = CONTAINERS
             .iter()
             .find(|each| each.0 == container)
             .expect("the container is listed");
         let (shipper, weighed) = (tonnes(known.1), tonnes(known.2));
-        println!("Ignoring {what}: the plan keeps the shipper's {shipper} t for box {container} of {weighed} t.");
+        line!("Ignoring {what}: the plan keeps the shipper's {shipper} t for box {container} of {weighed} t.");
         for Container(name, ..) in CONTAINERS {
             let expected = name == container || name == "A6";
-            assert_eq!(loses(world, rule, name), expected, "{what}: {name}");
+            assert_eq!(!other.plan.contains_key(name), expected, "{what}: {name}");
+            assert_eq!(loses(world, rule, name), expected, "by the rule alone, {what}: {name}");
         }
     }
-    println!(
-        "This driver sent those four again, and the plan has them. Box A6 is lost with every driver: a stray ACK with exactly"
-    );
-    println!("the awaited number, within the wait, is an ACK to the standard. Only a message above the driver can find that.");
+    line!("This driver sent those four again, and the plan has them. Box A6 is lost with every driver: a stray ACK with exactly");
+    line!("the awaited number, within the wait, is an ACK to the standard. Only a message above the driver can find that.");
 }
 
 /// What the table of aerials has for each cell: Nacks, frames, and whether all of these are weak.
@@ -438,7 +541,7 @@ fn show_aerials(world: &World, links: &[Link]) {
     title(
         "Is cell A at fault? Scenes 1 to 7: frames through each cell's aerial, to its hub or from the port, and their link quality",
     );
-    println!("cell    Nacks  frames  lowest  mean");
+    line!("cell    Nacks  frames  lowest  mean");
     for ((who, pan, address), expected) in CELLS.into_iter().zip(AERIALS) {
         let cell = Sender {
             pan,
@@ -453,10 +556,10 @@ fn show_aerials(world: &World, links: &[Link]) {
         let lowest = qualities.iter().min().expect("each cell was told the time");
         let mean = qualities.iter().map(|each| usize::from(*each)).sum::<usize>() / frames;
         let mark = if weak { "  weak" } else { "" };
-        println!("{:<6}  {nacks:>5}  {frames:>6}  {lowest:>6}  {mean:>4}{mark}", who.name());
+        line!("{:<6}  {nacks:>5}  {frames:>6}  {lowest:>6}  {mean:>4}{mark}", who.name());
     }
-    println!("What arrives from cell A is right, but its link is weak both ways, to its hub and from the port:");
-    println!("it is the aerial, not the cell.");
+    line!("What arrives from cell A is right, but its link is weak both ways, to its hub and from the port:");
+    line!("it is the aerial, not the cell.");
 }
 
 /// The cell of the container's crane.
@@ -466,43 +569,73 @@ fn cell_of(world: &World, container: &str) -> Sender {
     cells.next().expect("each crane has a cell").as_sender()
 }
 
-fn main() {
-    let stations = vec![
-        Station::new(HubA, 0xA00A, 0x0A00),
-        Station::new(CellA, 0xA00A, 0x0A01),
-        Station::new(HubB, 0xB00B, 0x0B00),
-        Station::new(CellB, 0xB00B, 0x0B01),
-    ];
-    let mut world = World::new(stations);
-    println!(
+/// What the lines are.
+fn introduction(tells: Tells) {
+    line!(
         "Two cranes in hearing. Times are simulated microseconds since the scene began; '=>' is a frame on the air (hexadecimal,"
     );
-    println!(
-        "without checksum). Lines with '->' are calls to the proved driver, the action it gives, and in [] the wait it is then in."
-    );
-    println!("Link quality (0 to 255) is what the radio told of that very frame, as the driver's answer has it.");
-    world.scene(Show::Nothing);
-    for hub in [HubA, HubB] {
-        world.plan_event(0, Event::Want(hub, Wanted::Receive));
+    if tells == Tells::StoryAndCalls {
+        line!("without checksum). Lines with '->' are calls to the proved driver, the action it gives, and in [] the wait it is then in.");
+    } else {
+        line!("without checksum), ANSWER what the proved driver answers to a request. With -v its calls and actions are told too.");
     }
-    world.run();
+    line!("Link quality (0 to 255) is what the radio told of that very frame, as the driver's answer has it.");
+}
+
+/// Scenes 1 to 6.
+fn two_cranes(tells: Tells) -> World {
+    let mut world = World::new(cranes(Station::new), tells);
+    open(&mut world);
     for scene in [quiet_exchange, one_bit, pending_bit, four_bytes, wrong_wait, same_number] {
         scene(&mut world);
     }
-    let mut links = time_broadcast();
-    full_line();
-    links.extend(&world.links);
+    world
+}
+
+/// The plan has the mass and the cell of every box but A6, and the driver's own rule says why.
+fn check_plan(world: &World) {
     for Container(name, _, kilograms) in CONTAINERS {
-        let by = cell_of(&world, name);
+        let by = cell_of(world, name);
         let weighed = Weighed { kilograms, by };
         assert_eq!(world.plan.get(name), (name != "A6").then_some(&weighed), "box {name}");
         assert_eq!(
-            loses(&world, exact, name),
+            loses(world, exact, name),
             name == "A6",
             "the driver's own rule explains box {name}"
         );
     }
-    show_plan(&world);
-    show_losses(&world);
+}
+
+/// The frames of all scenes as a capture.
+fn write_capture(path: &Path, worlds: &[&World]) -> io::Result<()> {
+    let airs: Vec<&Air> = worlds.iter().map(|world| &world.air).collect();
+    let frames = capture::write(path, &airs)?;
+    let name = path.display();
+    line!("\n{name} has the {frames} frames, each with its checksum; scene 1 begins there at second 1, scene 2 at second 2.");
+    Ok(())
+}
+
+fn main() -> ExitCode {
+    let Some(Arguments { tells, pcap }) = Arguments::read(env::args_os().skip(1)) else {
+        output::complain(arguments::USAGE);
+        return ExitCode::from(2);
+    };
+    introduction(tells);
+    let world = two_cranes(tells);
+    let with_port = time_broadcast(tells);
+    let with_line = full_line(tells);
+    check_plan(&world);
+    check_model(&world);
+    let loose = RULES.map(|(ignores, ..)| run_of(ignores));
+    show_plan(&world, &loose);
+    show_losses(&world, &loose);
+    let links: Vec<Link> = with_port.links.iter().chain(&world.links).copied().collect();
     show_aerials(&world, &links);
+    if let Some(path) = pcap {
+        if let Err(error) = write_capture(&path, &[&world, &with_port, &with_line]) {
+            output::complain(&format!("{} cannot be written: {error}", path.display()));
+            return ExitCode::from(2);
+        }
+    }
+    ExitCode::SUCCESS
 }

@@ -1,12 +1,14 @@
 //! What the host and the radio tell the service: requests and outcomes, with the numbers that the library takes for them.
+use crate::ffi;
+use crate::time::LocalClockInstant;
 
 /// When a task is to start.
 #[derive(Clone, Copy, Debug, PartialEq, Eq)]
 pub enum Timestamp {
     /// As soon as it can.
     BestEffort,
-    /// At this time, in nanoseconds.
-    Scheduled(u64),
+    /// At this time.
+    Scheduled(LocalClockInstant),
 }
 
 /// What a request asks for.
@@ -42,10 +44,11 @@ pub struct Request {
 pub enum RxResult {
     /// A frame was received.
     Frame {
-        /// Its length without checksum.
+        /// Its length without checksum: 1 to 127 less the checksum. Another is refused by 10, and nothing has been told then: the
+        /// radio tells such a frame, as one of nothing but a checksum, as a CRC error.
         length: u16,
         /// When it was received.
-        time: u64,
+        time: LocalClockInstant,
         /// The standard's link quality (LQI) of the received frame, 0 the lowest to 255 the highest. In an answer it is exactly
         /// what the radio told in the call that gave the answer.
         quality: u8,
@@ -55,7 +58,7 @@ pub enum RxResult {
     /// A frame with a wrong checksum was received.
     CrcError {
         /// When it was received.
-        time: u64,
+        time: LocalClockInstant,
         /// Its link quality, as of a frame.
         quality: u8,
     },
@@ -69,7 +72,7 @@ pub enum TaskResult {
     /// The frame was sent.
     Sent {
         /// When it was sent.
-        time: u64,
+        time: LocalClockInstant,
     },
     /// What receiving came to.
     Rx(RxResult),
@@ -82,7 +85,7 @@ pub enum StopResult {
     FrameStarted,
     /// The radio stopped listening. The result, its link quality included, comes in no answer.
     RxWindowEnded(RxResult),
-    /// The radio listens on.
+    /// The radio could not stop and listens on. (A stop that has come too late has not failed: `RadioTask::Stop`.)
     Failed,
 }
 
@@ -95,8 +98,9 @@ pub enum Cause {
     Task,
 }
 
-/// The eleven calls.
+/// The eleven calls. Request E7 of document 02 adds two: to hold a place of the line for a token, and to fill it.
 #[derive(Clone, Copy, Debug, PartialEq, Eq)]
+#[non_exhaustive]
 pub enum Call {
     /// This request arrives in the waiting line. It fits every wait.
     Arrive(Request),
@@ -122,7 +126,7 @@ pub enum Call {
     Stopped(StopResult),
     /// The beginning of the frame that is being received has arrived.
     Header {
-        /// How many of its bytes have arrived.
+        /// How many of its bytes have arrived, without those of the checksum: above 127 less the checksum this is refused by 10.
         arrived: u16,
         /// The frame's length with checksum.
         length: u16,
@@ -132,7 +136,7 @@ pub enum Call {
         /// What the previous task came to.
         result: TaskResult,
         /// The measured time of entry.
-        entry: u64,
+        entry: LocalClockInstant,
     },
     /// The radio could not enter it.
     Fallback {
@@ -149,8 +153,8 @@ impl Timestamp {
     /// The numbers `start` and `time`.
     pub(crate) fn numbers(self) -> (u8, u64) {
         match self {
-            Timestamp::BestEffort => (0, 0),
-            Timestamp::Scheduled(time) => (1, time),
+            Timestamp::BestEffort => (ffi::START_BEST_EFFORT, 0),
+            Timestamp::Scheduled(time) => (ffi::START_AT, time.as_nanos()),
         }
     }
 }
@@ -159,8 +163,8 @@ impl Task {
     /// The numbers `direction`, `length` and `cca`.
     pub(crate) fn numbers(self) -> (u8, u16, u8) {
         match self {
-            Task::Tx { length, cca } => (0, length, u8::from(cca)),
-            Task::Rx => (1, 0, 0),
+            Task::Tx { length, cca } => (ffi::DIRECTION_TX, length, u8::from(cca)),
+            Task::Rx => (ffi::DIRECTION_RX, 0, 0),
         }
     }
 }
@@ -174,12 +178,12 @@ impl RxResult {
         }
     }
 
-    /// The numbers `result`, `length`, `time` and `quality`.
-    fn numbers(self) -> (u8, u16, u64, u8) {
+    /// The numbers `length`, `time` and `quality`.
+    fn numbers(self) -> (u16, u64, u8) {
         match self {
-            RxResult::Frame { length, time, quality } => (2, length, time, quality),
-            RxResult::RxWindowEnded => (3, 0, 0, 0),
-            RxResult::CrcError { time, quality } => (4, 0, time, quality),
+            RxResult::Frame { length, time, quality } => (length, time.as_nanos(), quality),
+            RxResult::RxWindowEnded => (0, 0, 0),
+            RxResult::CrcError { time, quality } => (0, time.as_nanos(), quality),
         }
     }
 }
@@ -188,20 +192,36 @@ impl TaskResult {
     /// The numbers `result`, `length`, `time` and `quality`.
     pub(crate) fn numbers(self) -> (u8, u16, u64, u8) {
         match self {
-            TaskResult::Off => (0, 0, 0, 0),
-            TaskResult::Sent { time } => (1, 0, time, 0),
-            TaskResult::Rx(result) => result.numbers(),
+            TaskResult::Off => (ffi::RESULT_OFF, 0, 0, 0),
+            TaskResult::Sent { time } => (ffi::RESULT_SENT, 0, time.as_nanos(), 0),
+            TaskResult::Rx(received) => {
+                let result = match received {
+                    RxResult::Frame { .. } => ffi::RESULT_FRAME,
+                    RxResult::RxWindowEnded => ffi::RESULT_WINDOW_ENDED,
+                    RxResult::CrcError { .. } => ffi::RESULT_CRC_ERROR,
+                };
+                let (length, time, quality) = received.numbers();
+                (result, length, time, quality)
+            }
         }
     }
 }
 
 impl StopResult {
-    /// The numbers `outcome`, `length`, `time` and `quality`. Those of a receive result are the same as in `result`.
+    /// The numbers `outcome`, `length`, `time` and `quality`.
     pub(crate) fn numbers(self) -> (u8, u16, u64, u8) {
         match self {
-            StopResult::FrameStarted => (0, 0, 0, 0),
-            StopResult::Failed => (1, 0, 0, 0),
-            StopResult::RxWindowEnded(result) => result.numbers(),
+            StopResult::FrameStarted => (ffi::OUTCOME_FRAME_STARTED, 0, 0, 0),
+            StopResult::Failed => (ffi::OUTCOME_FAILED, 0, 0, 0),
+            StopResult::RxWindowEnded(received) => {
+                let outcome = match received {
+                    RxResult::Frame { .. } => ffi::OUTCOME_FRAME,
+                    RxResult::RxWindowEnded => ffi::OUTCOME_WINDOW_ENDED,
+                    RxResult::CrcError { .. } => ffi::OUTCOME_CRC_ERROR,
+                };
+                let (length, time, quality) = received.numbers();
+                (outcome, length, time, quality)
+            }
         }
     }
 }
@@ -210,9 +230,9 @@ impl Cause {
     /// The numbers `cause` and `cause_time`.
     pub(crate) fn numbers(self) -> (u8, u64) {
         match self {
-            Cause::Scheduling(Timestamp::BestEffort) => (0, 0),
-            Cause::Scheduling(Timestamp::Scheduled(time)) => (1, time),
-            Cause::Task => (2, 0),
+            Cause::Scheduling(Timestamp::BestEffort) => (ffi::CAUSE_SCHEDULING, 0),
+            Cause::Scheduling(Timestamp::Scheduled(time)) => (ffi::CAUSE_SCHEDULING_AT, time.as_nanos()),
+            Cause::Task => (ffi::CAUSE_TASK, 0),
         }
     }
 }
@@ -223,15 +243,15 @@ mod tests {
 
     #[test]
     fn codes_are_those_of_the_layouts() {
-        let (length, time, quality) = (3, 9, 200);
+        let (length, time, quality) = (3, LocalClockInstant::from_nanos(9), 200);
         let frame = RxResult::Frame { length, time, quality };
         let crc = RxResult::CrcError { time, quality };
         assert_eq!(Timestamp::BestEffort.numbers(), (0, 0));
-        assert_eq!(Timestamp::Scheduled(9).numbers(), (1, 9));
+        assert_eq!(Timestamp::Scheduled(time).numbers(), (1, 9));
         assert_eq!(Task::Tx { length: 12, cca: true }.numbers(), (0, 12, 1));
         assert_eq!(Task::Rx.numbers(), (1, 0, 0));
         assert_eq!(TaskResult::Off.numbers(), (0, 0, 0, 0));
-        assert_eq!(TaskResult::Sent { time: 9 }.numbers(), (1, 0, 9, 0));
+        assert_eq!(TaskResult::Sent { time }.numbers(), (1, 0, 9, 0));
         assert_eq!(TaskResult::Rx(frame).numbers(), (2, 3, 9, 200));
         assert_eq!(TaskResult::Rx(RxResult::RxWindowEnded).numbers(), (3, 0, 0, 0));
         assert_eq!(TaskResult::Rx(crc).numbers(), (4, 0, 9, 200));
@@ -241,13 +261,13 @@ mod tests {
         assert_eq!(StopResult::RxWindowEnded(RxResult::RxWindowEnded).numbers(), (3, 0, 0, 0));
         assert_eq!(StopResult::RxWindowEnded(crc).numbers(), (4, 0, 9, 200));
         assert_eq!(Cause::Scheduling(Timestamp::BestEffort).numbers(), (0, 0));
-        assert_eq!(Cause::Scheduling(Timestamp::Scheduled(9)).numbers(), (1, 9));
+        assert_eq!(Cause::Scheduling(Timestamp::Scheduled(time)).numbers(), (1, 9));
         assert_eq!(Cause::Task.numbers(), (2, 0));
     }
 
     #[test]
     fn what_was_received_has_its_quality() {
-        let (length, time) = (3, 9);
+        let (length, time) = (3, LocalClockInstant::from_nanos(9));
         for quality in 0..=255 {
             assert_eq!(RxResult::Frame { length, time, quality }.quality(), Some(quality));
             assert_eq!(RxResult::CrcError { time, quality }.quality(), Some(quality));

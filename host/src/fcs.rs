@@ -1,7 +1,7 @@
 //! The checksum at the end of a frame (FCS), worked out and checked by the library.
+use crate::error::{Error, Refusal};
 use crate::ffi::{FCS_NO, FCS_REFUSED, FCS_YES};
 use crate::raw;
-use crate::reply::Refusal;
 
 /// The 16-bit FCS of IEEE 802.15.4 of these bytes, as its two bytes are sent after them. Any bytes, also none: those have 00 00.
 ///
@@ -17,23 +17,23 @@ pub fn fcs(bytes: &[u8]) -> [u8; 2] {
 /// under 3 or over 127 bytes, checksum included, is refused (`Refusal::FrameLength`).
 ///
 /// ```
-/// use widosha::{check_fcs, Refusal};
+/// use widosha::{check_fcs, Error, Refusal};
 ///
 /// assert_eq!(check_fcs(&[0x02, 0x00, 0x6a, 0xe4, 0x79]), Ok(true));
 /// assert_eq!(check_fcs(&[0x02, 0x00, 0x6b, 0xe4, 0x79]), Ok(false));
-/// assert_eq!(check_fcs(&[0xe4, 0x79]), Err(Refusal::FrameLength));
+/// assert_eq!(check_fcs(&[0xe4, 0x79]), Err(Error::Refused(Refusal::FrameLength)));
 /// ```
-pub fn check_fcs(frame: &[u8]) -> Result<bool, Refusal> {
+pub fn check_fcs(frame: &[u8]) -> Result<bool, Error> {
     answer(raw::check_fcs(frame))
 }
 
 /// What the number says that the library's check returned.
-const fn answer(number: u8) -> Result<bool, Refusal> {
+const fn answer(number: u8) -> Result<bool, Error> {
     match number {
         FCS_YES => Ok(true),
         FCS_NO => Ok(false),
-        FCS_REFUSED => Err(Refusal::FrameLength),
-        _ => Err(Refusal::Unknown(number)),
+        FCS_REFUSED => Err(Error::Refused(Refusal::FrameLength)),
+        returned => Err(Error::Undecodable { returned }),
     }
 }
 
@@ -47,8 +47,8 @@ mod tests {
             let expected = match number {
                 0 => Ok(true),
                 255 => Ok(false),
-                14 => Err(Refusal::FrameLength),
-                _ => Err(Refusal::Unknown(number)),
+                14 => Err(Error::Refused(Refusal::FrameLength)),
+                returned => Err(Error::Undecodable { returned }),
             };
             assert_eq!(answer(number), expected);
         }

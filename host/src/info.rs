@@ -1,5 +1,5 @@
 //! What a frame's header says, as far as its bytes have arrived: decoded from the 32 bytes that the header reader writes.
-use crate::ffi::INFO_LENGTH;
+use crate::ffi::{self, INFO_LENGTH};
 use crate::raw;
 
 /// An address in a header.
@@ -90,9 +90,9 @@ impl Address {
     fn decode(mode: u8, bytes: [u8; 8]) -> Option<Self> {
         let number = u64::from_le_bytes(bytes);
         Some(match mode {
-            0 => Address::Absent,
-            2 => Address::Short(u16::try_from(number).ok()?),
-            3 => Address::Extended(number),
+            ffi::ADDRESS_ABSENT => Address::Absent,
+            ffi::ADDRESS_SHORT => Address::Short(u16::try_from(number).ok()?),
+            ffi::ADDRESS_EXTENDED => Address::Extended(number),
             _ => return None,
         })
     }

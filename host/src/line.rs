@@ -1,9 +1,14 @@
 //! The requests in the waiting line, as its bytes tell. The library alone reads the line to decide; this is for hosts and for logs.
 use crate::call::{Request, Task, Timestamp};
-use crate::ffi::LINE_LENGTH;
+use crate::ffi::{self, LINE_LENGTH};
+use crate::time::LocalClockInstant;
 
 /// How many requests can wait. One more is refused by 12.
-pub const LINE_CAPACITY: usize = 4;
+pub const LINE_CAPACITY: usize = ffi::LINE_CAPACITY;
+
+/// What a record says by its first byte, if it is not free. Request E7 of document 02 is to add 3, a place that is held.
+const TX_WAITS: u8 = 1;
+const RX_WAITS: u8 = 2;
 
 /// Bytes of one record.
 const RECORD_LENGTH: usize = LINE_LENGTH / LINE_CAPACITY;
@@ -19,16 +24,18 @@ pub(crate) fn waiting(line: &[u8; LINE_LENGTH]) -> impl Iterator<Item = Request>
 fn request(record: &[u8; RECORD_LENGTH]) -> Option<Request> {
     let [kind, start, cca, buffer, t0, t1, t2, t3, n0, n1, n2, n3, n4, n5, n6, n7, l0, l1, ..] = *record;
     let task = match kind {
-        1 => Task::Tx {
+        TX_WAITS => Task::Tx {
             length: u16::from_le_bytes([l0, l1]),
             cca: cca != 0,
         },
-        2 => Task::Rx,
+        RX_WAITS => Task::Rx,
         _ => return None,
     };
     let start = match start {
-        0 => Timestamp::BestEffort,
-        _ => Timestamp::Scheduled(u64::from_le_bytes([n0, n1, n2, n3, n4, n5, n6, n7])),
+        ffi::START_BEST_EFFORT => Timestamp::BestEffort,
+        _ => Timestamp::Scheduled(LocalClockInstant::from_nanos(u64::from_le_bytes([
+            n0, n1, n2, n3, n4, n5, n6, n7,
+        ]))),
     };
     Some(Request {
         token: u32::from_le_bytes([t0, t1, t2, t3]),
@@ -59,7 +66,7 @@ mod tests {
         let expected = [
             Request {
                 token: 0x0102_0304,
-                start: Timestamp::Scheduled(0x8102_0304_0506_0708),
+                start: Timestamp::Scheduled(LocalClockInstant::from_nanos(0x8102_0304_0506_0708)),
                 buffer: 9,
                 task: Task::Tx { length: 11, cca: true },
             },
@@ -71,7 +78,7 @@ mod tests {
             },
             Request {
                 token: 6,
-                start: Timestamp::Scheduled(9),
+                start: Timestamp::Scheduled(LocalClockInstant::from_nanos(9)),
                 buffer: 7,
                 task: Task::Rx,
             },

@@ -1,13 +1,15 @@
-//! The exported functions on slices. All unsafe code of the crate is here and, as declarations, in `ffi`.
+//! The exported functions on slices. With `lent` and, as declarations, `ffi` this is all unsafe code of the crate.
 #![allow(unsafe_code)]
 use crate::ffi::{self, INFO_LENGTH, LINE_LENGTH, REPLY_LENGTH, STATE_LENGTH};
+use crate::lent::PoolBytes;
 
-/// The four slices of a call. Exclusive borrows do not overlap, which is all that the library asks of them.
+/// The four slices of a call. Exclusive borrows do not overlap, which is all that the library asks of them. That of the pool is
+/// one of its pointer: no reference to the bytes is made, which a radio may be writing.
 pub(crate) struct Slices<'a> {
     pub(crate) state: &'a mut [u8; STATE_LENGTH],
     pub(crate) line: &'a mut [u8; LINE_LENGTH],
     pub(crate) reply: &'a mut [u8; REPLY_LENGTH],
-    pub(crate) pool: &'a mut [u8],
+    pub(crate) pool: PoolBytes<'a>,
 }
 
 macro_rules! on_slices {
@@ -15,8 +17,9 @@ macro_rules! on_slices {
         #[allow(clippy::too_many_arguments)]
         pub(crate) fn $name($($number: $type,)* slices: Slices<'_>) -> u8 {
             let Slices { state, line, reply, pool } = slices;
-            // SAFETY: each pointer comes from an exclusive borrow of as many bytes as the length beside it says; the four
-            // borrows live until the function returns, and it keeps no pointer. Every number is answered.
+            // SAFETY: each pointer comes from an exclusive borrow of as many bytes as the length beside it says, that of the pool
+            // from the one that the service is lent; the four borrows live until the function returns, and it keeps no pointer.
+            // Every number is answered.
             unsafe {
                 ffi::$function(
                     $($number,)*
@@ -44,6 +47,12 @@ on_slices! {
     entered(result: u8, length: u16, time: u64, entry: u64, quality: u8) = widosha_entered;
     fallback(result: u8, length: u16, time: u64, cause: u8, cause_time: u64, quality: u8) = widosha_fallback;
     rollback() = widosha_rollback;
+}
+
+/// The versions of the two libraries, that of the driver service first.
+pub(crate) fn abi_versions() -> [u32; 2] {
+    // SAFETY: the functions take nothing and touch no memory.
+    unsafe { [ffi::widosha_abi_version(), ffi::widosha_frame_abi_version()] }
 }
 
 pub(crate) fn preliminary_frame_info(frame: &[u8], info: &mut [u8; INFO_LENGTH]) -> u8 {

@@ -1,6 +1,7 @@
-//! What the service says to a call: an action and up to two answers, decoded from the reply's 48 bytes, or a refusal.
+//! What the service says to a call: an action and up to two answers, decoded from the reply's 48 bytes.
 use crate::call::{Cause, RxResult, Timestamp};
-use crate::ffi::REPLY_LENGTH;
+use crate::ffi::{self, REPLY_LENGTH};
+use crate::time::LocalClockInstant;
 
 /// The spacings between frames.
 #[derive(Clone, Copy, Debug, PartialEq, Eq)]
@@ -36,18 +37,19 @@ pub enum TaskDirection {
 pub enum StopListening {
     /// At once.
     Now,
-    /// At this time, in nanoseconds.
-    At(u64),
+    /// At this time.
+    At(LocalClockInstant),
     /// Early enough for a transmission.
     Before {
         /// The transmission's start.
-        start: u64,
+        start: LocalClockInstant,
         /// Its channel-check flag.
         cca: bool,
     },
 }
 
-/// What the radio or the host is to do.
+/// What the radio or the host is to do. A host has to do each of them, and no request of document 02 adds one: an action that came
+/// later is to keep a host from compiling.
 #[derive(Clone, Copy, Debug, PartialEq, Eq)]
 pub enum Action {
     /// Nothing new: a request has arrived in the line or was withdrawn, and what was to be done before still is.
@@ -101,12 +103,12 @@ pub enum Response {
     /// The frame was sent and, if it wanted an acknowledgement, acknowledged.
     Sent {
         /// When it was sent.
-        time: u64,
+        time: LocalClockInstant,
     },
     /// The frame was sent and not acknowledged.
     Nack {
         /// When it was sent.
-        time: u64,
+        time: LocalClockInstant,
     },
     /// The frame was not sent.
     Error(Cause),
@@ -125,8 +127,9 @@ impl Response {
     }
 }
 
-/// The answer to a request.
+/// The answer to a request. Request E8 of document 02 adds the identity that the request named.
 #[derive(Clone, Copy, Debug, PartialEq, Eq)]
+#[non_exhaustive]
 pub struct Answer {
     /// The request's token.
     pub token: u32,
@@ -135,6 +138,13 @@ pub struct Answer {
     pub buffer: u8,
     /// What the request came to.
     pub response: Response,
+}
+
+impl Answer {
+    /// An answer of something else than the library: of a model in the place of the service (`Service`).
+    pub const fn new(token: u32, buffer: u8, response: Response) -> Self {
+        Self { token, buffer, response }
+    }
 }
 
 /// Up to two answers, the earlier request's first.
@@ -171,96 +181,6 @@ pub struct Reply {
     pub answers: Answers,
 }
 
-/// Why a call was refused, by the numbers of documents 01 and 02. A refused call changes nothing.
-#[derive(Clone, Copy, Debug, PartialEq, Eq)]
-pub enum Refusal {
-    /// 1: the state bytes are not a state. Does not occur here.
-    State,
-    /// 2: the count or the pool's length. Does not occur here.
-    Count,
-    /// 3: headroom or tailroom is above 8.
-    Rooms,
-    /// 4: the two own buffers are equal, or one is not there.
-    OwnBuffers,
-    /// 5: the call or its outcome does not fit the wait, or the requests that wait.
-    Unfit,
-    /// 6: an unanswered request that has left the line has this token.
-    TokenHeld,
-    /// 7: the buffer is not there or is held, be it by a request that waits.
-    BufferHeld,
-    /// 8: the Tx length is below 3, or above 127 less the checksum.
-    TxLength,
-    /// 9: no request waits whose direction and start are allowed in this wait.
-    NotAllowed,
-    /// 10: the received length is 0, or it or the arrived bytes are above 127 less the checksum.
-    ReceivedLength,
-    /// 11: the latest start of the ACK exceeds 64 bits.
-    EntryTooLate,
-    /// 12: four requests wait.
-    LineFull,
-    /// 13: of an arrival, the token waits; of a withdrawal, it does not, or it is that of the Tx that OutboundSeen named, whose stop
-    /// or ask is still open.
-    TokenWaits,
-    /// 14: the frame whose checksum is to be checked has, with its checksum, under 3 or over 127 bytes. From `check_fcs` alone.
-    FrameLength,
-    /// The library and this crate do not belong together: it returned this number, or with 0 a reply, that docs/LAYOUTS.md does
-    /// not have.
-    Unknown(u8),
-}
-
-impl Refusal {
-    /// The number that the library returned.
-    pub const fn number(self) -> u8 {
-        match self {
-            Refusal::State => 1,
-            Refusal::Count => 2,
-            Refusal::Rooms => 3,
-            Refusal::OwnBuffers => 4,
-            Refusal::Unfit => 5,
-            Refusal::TokenHeld => 6,
-            Refusal::BufferHeld => 7,
-            Refusal::TxLength => 8,
-            Refusal::NotAllowed => 9,
-            Refusal::ReceivedLength => 10,
-            Refusal::EntryTooLate => 11,
-            Refusal::LineFull => 12,
-            Refusal::TokenWaits => 13,
-            Refusal::FrameLength => 14,
-            Refusal::Unknown(number) => number,
-        }
-    }
-
-    /// None for 0, which is "accepted".
-    pub(crate) const fn of(number: u8) -> Option<Self> {
-        Some(match number {
-            0 => return None,
-            1 => Refusal::State,
-            2 => Refusal::Count,
-            3 => Refusal::Rooms,
-            4 => Refusal::OwnBuffers,
-            5 => Refusal::Unfit,
-            6 => Refusal::TokenHeld,
-            7 => Refusal::BufferHeld,
-            8 => Refusal::TxLength,
-            9 => Refusal::NotAllowed,
-            10 => Refusal::ReceivedLength,
-            11 => Refusal::EntryTooLate,
-            12 => Refusal::LineFull,
-            13 => Refusal::TokenWaits,
-            14 => Refusal::FrameLength,
-            _ => Refusal::Unknown(number),
-        })
-    }
-}
-
-impl core::fmt::Display for Refusal {
-    fn fmt(&self, f: &mut core::fmt::Formatter<'_>) -> core::fmt::Result {
-        write!(f, "refused by {}", self.number())
-    }
-}
-
-impl core::error::Error for Refusal {}
-
 /// Bytes of the reply before the answers, and of each answer.
 const ACTION_LENGTH: usize = 12;
 const ANSWER_LENGTH: usize = 18;
@@ -278,8 +198,8 @@ impl Reply {
         let (first, rest) = rest.split_first_chunk::<ANSWER_LENGTH>()?;
         let second = rest.first_chunk::<ANSWER_LENGTH>()?;
         let answers = match (first[0], second[0]) {
-            (0, 0) => Answers::None,
-            (_, 0) => Answers::One(answer(first)?),
+            (ffi::ANSWER_NONE, ffi::ANSWER_NONE) => Answers::None,
+            (_, ffi::ANSWER_NONE) => Answers::One(answer(first)?),
             (_, _) => Answers::Two(answer(first)?, answer(second)?),
         };
         Some(Self {
@@ -291,29 +211,29 @@ impl Reply {
 
 fn decode_action(bytes: &[u8; ACTION_LENGTH]) -> Option<Action> {
     let [code, buffer, length, flags, time @ ..] = *bytes;
-    let time = u64::from_le_bytes(time);
-    let (flag, rollback) = (flags & 1 != 0, flags & 2 != 0);
-    let start = if flags & 4 != 0 {
+    let time = LocalClockInstant::from_nanos(u64::from_le_bytes(time));
+    let (flag, rollback) = (flags & ffi::FLAG_CCA != 0, flags & ffi::FLAG_ROLLBACK != 0);
+    let start = if flags & ffi::FLAG_AT != 0 {
         Timestamp::Scheduled(time)
     } else {
         Timestamp::BestEffort
     };
-    let spacing = match flags >> 3 & 3 {
-        0 => Spacing::None,
-        1 => Spacing::After(Ifs::Aifs),
-        2 => Spacing::After(Ifs::Sifs),
+    let spacing = match flags >> ffi::SPACING_SHIFT & 3 {
+        ffi::SPACING_NONE => Spacing::None,
+        ffi::SPACING_AIFS => Spacing::After(Ifs::Aifs),
+        ffi::SPACING_SIFS => Spacing::After(Ifs::Sifs),
         _ => Spacing::After(Ifs::Lifs),
     };
     Some(match code {
-        1 => Action::ReceiveRequest,
-        2 => Action::TryReceiveRequest(TaskDirection::Any),
-        3 => Action::TryReceiveRequest(TaskDirection::Outbound),
-        4 => Action::Listen,
-        5 => Action::Stop(StopListening::Now),
-        6 => Action::Stop(StopListening::At(time)),
-        7 => Action::Stop(StopListening::Before { start: time, cca: flag }),
-        8 => Action::ReadHeader,
-        9 => Action::Tx {
+        ffi::ACTION_RECEIVE_REQUEST => Action::ReceiveRequest,
+        ffi::ACTION_TRY_RECEIVE_REQUEST => Action::TryReceiveRequest(TaskDirection::Any),
+        ffi::ACTION_TRY_RECEIVE_OUTBOUND => Action::TryReceiveRequest(TaskDirection::Outbound),
+        ffi::ACTION_LISTEN => Action::Listen,
+        ffi::ACTION_STOP_NOW => Action::Stop(StopListening::Now),
+        ffi::ACTION_STOP_AT => Action::Stop(StopListening::At(time)),
+        ffi::ACTION_STOP_BEFORE => Action::Stop(StopListening::Before { start: time, cca: flag }),
+        ffi::ACTION_READ_HEADER => Action::ReadHeader,
+        ffi::ACTION_TX => Action::Tx {
             buffer,
             length,
             cca: flag,
@@ -321,13 +241,13 @@ fn decode_action(bytes: &[u8; ACTION_LENGTH]) -> Option<Action> {
             spacing,
             rollback,
         },
-        10 => Action::Rx {
+        ffi::ACTION_RX => Action::Rx {
             buffer,
             start,
             spacing,
             rollback,
         },
-        11 => Action::Off { rollback },
+        ffi::ACTION_OFF => Action::Off { rollback },
         _ => return None,
     })
 }
@@ -335,17 +255,17 @@ fn decode_action(bytes: &[u8; ACTION_LENGTH]) -> Option<Action> {
 /// Bytes that the code leaves unused are not looked at, as in an action: the quality of any answer but 6 and 8 among them.
 fn answer(bytes: &[u8; ANSWER_LENGTH]) -> Option<Answer> {
     let [code, t0, t1, t2, t3, buffer, length, n0, n1, n2, n3, n4, n5, n6, n7, quality, ..] = *bytes;
-    let time = u64::from_le_bytes([n0, n1, n2, n3, n4, n5, n6, n7]);
+    let time = LocalClockInstant::from_nanos(u64::from_le_bytes([n0, n1, n2, n3, n4, n5, n6, n7]));
     let length = u16::from(length);
     let response = match code {
-        1 => Response::Sent { time },
-        2 => Response::Nack { time },
-        3 => Response::Error(Cause::Scheduling(Timestamp::BestEffort)),
-        4 => Response::Error(Cause::Scheduling(Timestamp::Scheduled(time))),
-        5 => Response::Error(Cause::Task),
-        6 => Response::Received(RxResult::Frame { length, time, quality }),
-        7 => Response::Received(RxResult::RxWindowEnded),
-        8 => Response::Received(RxResult::CrcError { time, quality }),
+        ffi::ANSWER_SENT => Response::Sent { time },
+        ffi::ANSWER_NACK => Response::Nack { time },
+        ffi::ANSWER_ERROR_SCHEDULING => Response::Error(Cause::Scheduling(Timestamp::BestEffort)),
+        ffi::ANSWER_ERROR_SCHEDULING_AT => Response::Error(Cause::Scheduling(Timestamp::Scheduled(time))),
+        ffi::ANSWER_ERROR_TASK => Response::Error(Cause::Task),
+        ffi::ANSWER_FRAME => Response::Received(RxResult::Frame { length, time, quality }),
+        ffi::ANSWER_WINDOW_ENDED => Response::Received(RxResult::RxWindowEnded),
+        ffi::ANSWER_CRC_ERROR => Response::Received(RxResult::CrcError { time, quality }),
         _ => return None,
     };
     Some(Answer {
@@ -372,23 +292,9 @@ mod tests {
     }
 
     #[test]
-    fn every_refusal_number_comes_back() {
-        assert_eq!(Refusal::of(0), None);
-        for number in 1..=255 {
-            assert_eq!(Refusal::of(number).map(Refusal::number), Some(number));
-        }
-        assert_eq!(Refusal::of(12), Some(Refusal::LineFull));
-        assert_eq!(Refusal::of(13), Some(Refusal::TokenWaits));
-        assert_eq!(Refusal::of(14), Some(Refusal::FrameLength));
-        for number in [15, 16, 255] {
-            assert_eq!(Refusal::of(number), Some(Refusal::Unknown(number)));
-        }
-    }
-
-    #[test]
     fn actions_are_those_of_the_layouts() {
         let at: &[u8] = &[8, 7, 6, 5, 4, 3, 2, 1];
-        let time = 0x0102_0304_0506_0708;
+        let time = LocalClockInstant::from_nanos(0x0102_0304_0506_0708);
         assert_eq!(action(&[]), None, "only on the line");
         assert_eq!(action(&[(0, &[12])]), None);
         assert_eq!(action(&[(0, &[1])]), Some(Action::ReceiveRequest));
@@ -443,7 +349,7 @@ mod tests {
             }) => Some(response),
             _ => None,
         };
-        let (length, time, quality) = (11, 0x8000_0000_0000_0007, 0xc5);
+        let (length, time, quality) = (11, LocalClockInstant::from_nanos(0x8000_0000_0000_0007), 0xc5);
         let at = Timestamp::Scheduled(time);
         assert_eq!(one(1), Some(Response::Sent { time }));
         assert_eq!(one(2), Some(Response::Nack { time }));

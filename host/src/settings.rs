@@ -1,8 +1,9 @@
 //! What start sets, and the pool of buffers.
-use crate::ffi::BUFFER_LENGTH;
+use crate::ffi::{self, BUFFER_LENGTH};
+use core::fmt;
 
 /// The longest frame with checksum, in bytes.
-pub const FRAME_LENGTH: usize = 127;
+pub const FRAME_LENGTH: usize = ffi::FRAME_LENGTH;
 
 /// Length of a frame's checksum.
 #[derive(Clone, Copy, Debug, PartialEq, Eq)]
@@ -24,6 +25,9 @@ impl FcsLength {
 }
 
 /// What start sets. How many buffers there are is the pool's parameter.
+///
+/// Requests E8 and E10 of document 02 change this: two identities, and a third own buffer. A host has to choose them, so every field
+/// has to be named.
 #[derive(Clone, Copy, Debug, PartialEq, Eq)]
 pub struct Settings {
     /// Bytes of each buffer before its frame: 0 to 8, else start is refused.
@@ -44,12 +48,14 @@ pub struct Settings {
     pub spare_buffer: u8,
 }
 
-/// The buffers, 144 bytes each. `N` is 3 to 32; another number does not compile.
+/// The buffers, 144 bytes each. `N` is 3 to 32; another number does not compile. 8 are held at most: the service's own two, those of
+/// four requests that wait, and those of two that have left the line and are not answered yet.
 ///
 /// ```compile_fail
 /// let pool = widosha::Pool::<2>::new();
 /// ```
-#[derive(Clone, Debug, PartialEq, Eq)]
+#[derive(Clone, PartialEq, Eq)]
+#[repr(transparent)]
 pub struct Pool<const N: usize>([[u8; BUFFER_LENGTH]; N]);
 
 impl<const N: usize> Pool<N> {
@@ -79,9 +85,12 @@ impl<const N: usize> Pool<N> {
     pub fn bytes(&self) -> &[u8] {
         self.0.as_flattened()
     }
+}
 
-    pub(crate) fn bytes_mut(&mut self) -> &mut [u8] {
-        self.0.as_flattened_mut()
+/// How many buffers there are, and no byte of them.
+impl<const N: usize> fmt::Debug for Pool<N> {
+    fn fmt(&self, f: &mut fmt::Formatter<'_>) -> fmt::Result {
+        f.debug_struct("Pool").field("buffers", &N).finish_non_exhaustive()
     }
 }
 

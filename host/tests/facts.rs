@@ -298,9 +298,13 @@ fn control_alone() {
     }
 }
 
+fn at(nanoseconds: u64) -> LocalClockInstant {
+    LocalClockInstant::from_nanos(nanoseconds)
+}
+
 /// A hub that listens, and the model's settings of it.
 struct Hub {
-    service: DriverService<4>,
+    service: DriverService<'static, 4>,
     settings: ModelSettings,
     /// The buffer that it listens with.
     buffer: u8,
@@ -322,7 +326,7 @@ impl Hub {
                 ack_buffer: settings.ack,
                 spare_buffer: settings.spare,
             },
-            Pool::new(),
+            Box::leak(Box::default()),
         )
         .expect("the settings are in range");
         let buffer = (0..4)
@@ -338,7 +342,7 @@ impl Hub {
         };
         service.arrive(request).expect("the line is empty");
         service.request().expect("a request fits");
-        service.entered(TaskResult::Off, 1).expect("the radio listens");
+        service.entered(TaskResult::Off, at(1)).expect("the radio listens");
         Hub {
             service,
             settings,
@@ -356,7 +360,7 @@ impl Hub {
         self.service.put_frame(self.buffer, frame);
         let result = TaskResult::Rx(RxResult::Frame {
             length,
-            time: 7,
+            time: at(7),
             quality,
         });
         let header = self.service.header(length, length + u16::from(self.settings.fcs));
@@ -367,7 +371,7 @@ impl Hub {
             Action::TryReceiveRequest(_) => assert!(self.service.none().is_ok()),
             _ => {}
         }
-        let reply = self.service.entered(result, 8).expect("the frame is there");
+        let reply = self.service.entered(result, at(8)).expect("the frame is there");
         reply.answers.into_iter().next()
     }
 }
@@ -432,7 +436,7 @@ fn received_broadcasts() {
         let length = frame.len() as u16;
         let response = Response::Received(RxResult::Frame {
             length,
-            time: 7,
+            time: at(7),
             quality,
         });
         assert_eq!(answer.map(|answer| answer.response), Some(response), "{whom:?}: {frame:02x?}");

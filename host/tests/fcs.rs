@@ -6,7 +6,7 @@ mod model;
 use common::library::Guarded;
 use common::random::Rng;
 use common::{divisor, rounds, seed, stride};
-use widosha::{check_fcs, fcs, ffi, Refusal};
+use widosha::{check_fcs, fcs, ffi, Error, Refusal};
 
 /// The bits of bytes in the order in which they are sent: each byte's lowest bit first.
 fn bits(bytes: &[u8]) -> Vec<bool> {
@@ -64,7 +64,7 @@ fn library_check(frame: &[u8]) -> u8 {
     let expected = match number {
         0 => Ok(true),
         255 => Ok(false),
-        14 => Err(Refusal::FrameLength),
+        14 => Err(Error::Refused(Refusal::FrameLength)),
         _ => panic!("the check returned {number}"),
     };
     assert_eq!(check_fcs(frame), expected);
@@ -262,5 +262,8 @@ fn null_pointers() {
         assert_eq!(ffi::widosha_fcs(std::ptr::null(), 0), 0);
         assert_eq!(ffi::widosha_check_fcs(std::ptr::null(), 0), 14);
     }
-    assert_eq!((fcs(&[]), check_fcs(&[])), ([0, 0], Err(Refusal::FrameLength)));
+    assert_eq!(
+        (fcs(&[]), check_fcs(&[])),
+        ([0, 0], Err(Error::Refused(Refusal::FrameLength)))
+    );
 }

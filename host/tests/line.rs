@@ -558,7 +558,8 @@ fn outbound_seen_is_of_the_earliest_tx() {
     let timed = |token, buffer, time, cca| Raw::arrive(token, 0, 1, time, buffer, 9, cca);
     let soon = |token, buffer, cca| Raw::arrive(token, 0, 0, 0, buffer, 9, cca);
     let receive = Raw::arrive(30, 1, 1, 500, 7, 0, 0);
-    let rows: [(&[Raw], &[(u8, u64, u8)]); 8] = [
+    type Row<'a> = (&'a [Raw], &'a [(u8, u64, u8)]);
+    let rows: [Row; 8] = [
         (&[], &[]),
         (&[rx(30, 7)], &[]),
         (&[receive], &[]),

@@ -1,4 +1,5 @@
-//! Random lists of calls through the library against the model, every result compared and the book of document 01 kept.
+//! Random lists of calls through the library, by its C functions and by the safe types, against the model: every result compared and
+//! the book of document 01 kept.
 mod common;
 mod model;
 
@@ -6,6 +7,7 @@ use common::frames::{self, For, EVERY_FOR};
 use common::met::{Before, Frames, Met, Tally, BEST_EFFORT, EVERY_MET, IDLE, NAMED, TX_OR_BEST_EFFORT};
 use common::random::Rng;
 use common::run::{fail, Opening, Run};
+use common::safe::Safe;
 use common::{choose, compare::Pair, divisor, reached::every_wait, rounds, seed};
 use model::calls::{Raw, Request, Start, CALL_NAMES};
 use model::engine::Wait;
@@ -15,6 +17,9 @@ use std::collections::{BTreeMap, BTreeSet};
 #[derive(Default)]
 struct Coverage {
     calls: u64,
+    /// Those that were made by the safe types too, and starts of which they said so.
+    safe: u64,
+    safe_refused: [u64; 5],
     runs: u64,
     accepted: [u64; 11],
     refused: [u64; 14],
@@ -91,6 +96,11 @@ impl Coverage {
 
     fn print(&self) {
         println!(
+            "random: {} of the calls by the safe types too, and starts that these refused by number: {:?}",
+            self.safe,
+            &self.safe_refused[1..]
+        );
+        println!(
             "random: {} calls in {} runs, {} accepted",
             self.calls,
             self.runs,
@@ -123,6 +133,14 @@ impl Coverage {
         for (name, count) in CALL_NAMES.iter().zip(self.accepted) {
             assert!(count >= 1_000, "{name} was accepted only {count} times");
         }
+        // All but those on slices cut or damaged, those with a code that stands for nothing, and those of runs on 11 to 31 buffers;
+        // of the refusals of start 3 and 4 can be met.
+        assert!(
+            self.safe * 100 >= self.calls * 85,
+            "only {} of the calls went both ways",
+            self.safe
+        );
+        assert!(self.safe_refused[3] >= 100 && self.safe_refused[4] >= 100);
         // 3 and 4 are start's alone: a state slice with such settings is refused with 1.
         let numbers: Vec<usize> = (1..14).filter(|number| self.refused[*number] > 0).collect();
         assert_eq!(numbers, [1, 2, 5, 6, 7, 8, 9, 10, 11, 12, 13], "refusals of calls");
@@ -202,8 +220,14 @@ fn odd_starts(rng: &mut Rng, coverage: &mut Coverage) {
             _ => {}
         }
         let [state, line, reply, pool] = [0, 1, 2, 3].map(|slice| vec![0x11 * (1 + slice as u8); lengths[slice]]);
-        let returned = Pair::new(&state, &line, &reply, &pool).start(&raw);
+        let mut pair = Pair::new(&state, &line, &reply, &pool);
+        let returned = pair.start(&raw);
         let returned = returned.unwrap_or_else(|wrong| panic!("{wrong}\n{raw:?} with slices of {lengths:?}"));
+        if lengths == [64, 96, 48, length] && Safe::can_say(&raw) {
+            let safe = Safe::start(&raw, &pool, returned, pair.reply());
+            safe.unwrap_or_else(|wrong| panic!("{wrong}\n{raw:?}"));
+            coverage.safe_refused[usize::from(returned)] += 1;
+        }
         coverage.start_refused[usize::from(returned)] += 1;
         coverage.calls += 1;
     }
@@ -234,6 +258,7 @@ fn random_run(seed: u64, coverage: &mut Coverage) {
             Err(wrong) => fail(seed, &run, &wrong),
         }
     }
+    coverage.safe += run.beside.0.map_or(0, |safe| safe.made);
 }
 
 #[test]

@@ -26,7 +26,7 @@ status=$?
 if [ "$status" -ne 0 ]; then
     cat "$log"
 else
-    grep -E '^(random|boundaries|line|slices|damaged|facts|quality|fcs|capture):|ERROR SUMMARY' "$log"
+    grep -E '^(random|boundaries|line|slices|alignment|damaged|dma|facts|quality|fcs|station|capture):|ERROR SUMMARY' "$log"
 fi
 awk '/^test result: / { passed += $4; failed += $6 }
      END { printf "valgrind: %d tests passed, %d failed\n", passed, failed }' "$log"

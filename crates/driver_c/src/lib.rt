@@ -2,11 +2,19 @@
 #![tactic(auto)]
 
 ghost use Rattle.std.specs.Prelude.{◌≡◌};
+ghost use Rattle.abi_version.specs.Version.{abi_version_number};
 ghost use Rattle.call_codes.specs.declared.ExportedCall.{ExportedCall};
 ghost use Rattle.byte_calls.specs.Calls.{Called};
 ghost use Rattle.byte_calls.specs.Start.{StartCalled};
 
 use call_codes::{ExportedCall, StartNumbers};
+
+#[unsafe(no_mangle)]
+pub extern "C" fn widosha_abi_version() -> u32
+    ensures { result ≡ abi_version_number }
+{
+    abi_version::abi_version()
+}
 
 #[unsafe(no_mangle)]
 pub extern "C" fn widosha_start(

@@ -2,9 +2,17 @@
 #![tactic(auto)]
 
 ghost use Rattle.std.specs.Prelude.{◌≡◌};
+ghost use Rattle.abi_version.specs.Version.{abi_version_number};
 ghost use Rattle.info_bytes.specs.Info.{InfoCalled};
 ghost use Rattle.fcs.specs.Fcs.{fcs_of};
 ghost use Rattle.fcs.specs.Check.{check_of, check_number};
+
+#[unsafe(no_mangle)]
+pub extern "C" fn widosha_frame_abi_version() -> u32
+    ensures { result ≡ abi_version_number }
+{
+    abi_version::abi_version()
+}
 
 #[unsafe(no_mangle)]
 pub extern "C" fn widosha_preliminary_frame_info(frame: &[u8], info: &mut [u8]) -> u8

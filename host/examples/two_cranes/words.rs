@@ -43,8 +43,8 @@ pub fn made(made: &Made, since: u64) -> String {
             number => format!("{number} wait"),
         },
         Ok(reply) => action(&reply.action, since),
-        Err(Refusal::LineFull) => "refused by 12: four wait".into(),
-        Err(refusal) => refusal.to_string(),
+        Err(Error::Refused(Refusal::LineFull)) => "refused by 12: four wait".into(),
+        Err(error) => error.to_string(),
     };
     format!("{:<26} -> {what:<34} [{}]", call(made, since), wait(made.wait))
 }
@@ -65,6 +65,7 @@ pub fn call(made: &Made, since: u64) -> String {
         Call::Entered { result, .. } => format!("Entered: {}", left(result)),
         Call::Fallback { .. } => "Fallback: channel busy".into(),
         Call::Rollback => "Rollback".into(),
+        _ => "another call".into(),
     }
 }
 
@@ -95,7 +96,7 @@ pub fn action(action: &Action, since: u64) -> String {
         Action::TryReceiveRequest(TaskDirection::Any) => "ask the line".into(),
         Action::TryReceiveRequest(TaskDirection::Outbound) => "ask for the outbound one".into(),
         Action::Listen => "listen".into(),
-        Action::Stop(StopListening::At(time)) => format!("stop listening at {}", (time - since) / 1000),
+        Action::Stop(StopListening::At(time)) => format!("stop listening at {}", (time.as_nanos() - since) / 1000),
         Action::Stop(_) => "stop listening now".into(),
         Action::ReadHeader => "read the header".into(),
         Action::Tx { buffer, spacing, .. } => format!("send buffer {buffer}{}", after(spacing)),

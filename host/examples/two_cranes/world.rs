@@ -1,6 +1,8 @@
-//! Time, the stations and what happens to them: the radios obey the actions, and their outcomes are the next calls.
+//! Time, the stations and what happens to them: when the radios have done what they were told, and what came of it.
 use crate::air::{Air, Flying, Who, BEFORE_BYTES, BYTE, MICROSECOND};
-use crate::station::{Link, Made, Phase, Plan, Sender, Station, Told, Wanted, Weighed, Weighing};
+use crate::output::line;
+use crate::radio::Phase;
+use crate::station::{Entry, Link, Made, Plan, Sender, Station, Told, Wanted, Weighed, Weighing};
 use crate::words;
 use std::collections::BTreeMap;
 use widosha::*;
@@ -22,7 +24,7 @@ pub enum Event {
     /// A frame begins to be heard.
     Begins(usize),
     /// The radio has done what it was told, unless it was told something else since.
-    Due(usize, Action),
+    Due(usize, RadioTask),
 }
 
 /// Which calls are printed, until a weighing is sent again.
@@ -31,6 +33,16 @@ pub enum Show {
     Nothing,
     AllCallsOf(Who),
     CallsOfAckWait(Who),
+}
+
+/// What of a world is printed.
+#[derive(Clone, Copy, PartialEq, Eq)]
+pub enum Tells {
+    Nothing,
+    /// Frames, answers and what the hosts make of them.
+    Story,
+    /// The calls that a scene shows, too.
+    StoryAndCalls,
 }
 
 pub struct World {
@@ -49,10 +61,11 @@ pub struct World {
     /// Every call that was made, with its station.
     pub calls: Vec<(Who, Made)>,
     pub show: Show,
+    pub tells: Tells,
 }
 
 impl World {
-    pub fn new(stations: Vec<Station>) -> Self {
+    pub fn new(stations: Vec<Station>, tells: Tells) -> Self {
         World {
             now: 0,
             since: 0,
@@ -67,12 +80,14 @@ impl World {
             charges: Vec::new(),
             calls: Vec::new(),
             show: Show::Nothing,
+            tells,
         }
     }
 
-    /// Begins a scene at a whole second, from which its times are counted.
-    pub fn scene(&mut self, show: Show) {
-        self.since = (self.now / 1_000_000_000 + 1) * 1_000_000_000;
+    /// Begins the scene of this number, at the second of this number; its times are counted from there.
+    pub fn scene(&mut self, number: u64, show: Show) {
+        self.since = number * 1_000_000_000;
+        assert!(self.now <= self.since, "the scene before has ended");
         self.now = self.since;
         self.show = show;
     }
@@ -103,13 +118,15 @@ impl World {
                     self.transmit(who, bytes);
                 }
                 Event::Begins(id) => (0..self.stations.len()).for_each(|i| self.frame_begins(i, id)),
-                Event::Due(i, action) => self.due(i, action),
+                Event::Due(i, task) => self.due(i, task),
             }
         }
     }
 
     pub fn say(&self, who: &str, text: &str) {
-        println!("{:>6}  {who:<9} {text}", (self.now - self.since) / MICROSECOND);
+        if self.tells != Tells::Nothing {
+            line!("{:>6}  {who:<9} {text}", (self.now - self.since) / MICROSECOND);
+        }
     }
 
     fn station(&self, who: Who) -> usize {
@@ -121,24 +138,17 @@ impl World {
 
     fn wanted(&mut self, who: Who, wanted: Wanted) {
         let i = self.station(who);
-        if matches!(wanted, Wanted::Send(weighing) if self.stations[i].unacknowledged == Some(weighing)) {
+        if matches!(wanted, Wanted::Send(weighing) if self.stations[i].host().unacknowledged == Some(weighing)) {
             self.show = Show::Nothing;
         }
         self.stations[i].want(wanted);
-        self.line_changed(i);
+        self.settle(i);
     }
 
     fn withdrawn(&mut self, who: Who, wanted: Wanted) {
         let i = self.station(who);
         self.stations[i].withdraw(wanted);
-        self.line_changed(i);
-    }
-
-    /// After the host has called by itself: the radio has its action already, unless this led to a new one.
-    fn line_changed(&mut self, i: usize) {
-        if self.host_turns(i) {
-            self.obey(i);
-        }
+        self.settle(i);
     }
 
     fn transmit(&mut self, from: Who, bytes: Vec<u8>) -> u64 {
@@ -148,69 +158,60 @@ impl World {
         left
     }
 
-    // ---- One call, and the radio's part
+    // ---- The radios
 
-    /// The radio makes a call, which must fit. Then the host has its turns, and the radio obeys the last action.
-    fn call(&mut self, i: usize, call: Call) {
-        let reply = self.stations[i].make(call);
-        reply.expect("the radio makes no call that does not fit");
-        self.host_turns(i);
-        self.obey(i);
+    /// The radio tells something, which must fit. The loop makes all calls that follow from it.
+    fn tell(&mut self, i: usize, event: RadioEvent) {
+        self.stations[i].told(event);
+        self.settle(i);
     }
 
-    /// The host's turns, each after the answers of the calls before it. Says whether there is a new action for the radio.
-    fn host_turns(&mut self, i: usize) -> bool {
-        let mut new_action = false;
-        self.tell(i);
-        while self.stations[i].host_turn() {
-            new_action = true;
-            self.tell(i);
+    /// After the calls: what the host has to tell of them, and when the radio's new task is due.
+    fn settle(&mut self, i: usize) {
+        for entry in self.stations[i].take_journal() {
+            match entry {
+                Entry::Made(made) => self.made(i, made),
+                Entry::Answered(wanted, answer, frame) => self.answered(i, wanted, answer, frame),
+            }
         }
-        // Requests that were kept back may have arrived in the last turn too.
-        self.tell(i);
-        new_action
+        if let Some(task) = self.stations[i].radio_mut().0.take_begun() {
+            self.begin(i, task);
+        }
     }
 
-    /// Prints the calls that are to be shown and gives their answers to the host.
-    fn tell(&mut self, i: usize) {
+    /// Prints a call that is to be shown.
+    fn made(&mut self, i: usize, made: Made) {
         let who = self.stations[i].who;
-        for made in std::mem::take(&mut self.stations[i].journal) {
-            let ack_wait = matches!(made.found, Some(Wait::Entering(Transition::AckWait) | Wait::Stopping(_)))
-                || matches!(made.found, Some(Wait::Asking(Asked::ReceivingAck | Asked::AfterAckWindow)))
-                || matches!(made.found, Some(Wait::Entering(Transition::Request(Left::ReceivingAck, _))));
-            let shown = self.show == Show::AllCallsOf(who) || self.show == Show::CallsOfAckWait(who) && ack_wait;
-            // None is then the call that is shown.
-            if shown && made.result != Err(Refusal::NotAllowed) {
-                self.say(who.name(), &words::made(&made, self.since));
-            }
-            for answer in made.result.map_or(Answers::None, |reply| reply.answers) {
-                self.answered(i, answer);
-            }
-            self.calls.push((who, made));
+        let ack_wait = matches!(made.found, Some(Wait::Entering(Transition::AckWait) | Wait::Stopping(_)))
+            || matches!(made.found, Some(Wait::Asking(Asked::ReceivingAck | Asked::AfterAckWindow)))
+            || matches!(made.found, Some(Wait::Entering(Transition::Request(Left::ReceivingAck, _))));
+        let shown = self.show == Show::AllCallsOf(who) || self.show == Show::CallsOfAckWait(who) && ack_wait;
+        // None is then the call that is shown.
+        if self.tells == Tells::StoryAndCalls && shown && made.result != Err(Error::Refused(Refusal::NotAllowed)) {
+            self.say(who.name(), &words::made(&made, self.since));
         }
+        self.calls.push((who, made));
     }
 
-    /// The radio's part: does what can be done at once, and for the rest settles when it is due.
-    fn obey(&mut self, i: usize) {
-        let action = self.stations[i].action;
-        match action {
-            Action::Stop(StopListening::At(time)) => self.put(time, Event::Due(i, action)),
-            Action::Stop(_) => self.stop(i),
-            Action::ReadHeader => {
+    /// When the radio's task is due.
+    fn begin(&mut self, i: usize, task: RadioTask) {
+        match task {
+            RadioTask::Stop(StopListening::At(time)) => self.put(time.as_nanos(), Event::Due(i, task)),
+            RadioTask::ReadHeader => {
                 let (_, arrived, begin) = self.receiving(i);
                 let time = begin + BEFORE_BYTES + BYTE * u64::from(arrived);
-                self.put(time, Event::Due(i, action));
+                self.put(time, Event::Due(i, task));
             }
-            Action::Tx { .. } | Action::Rx { .. } | Action::Off { .. } => self.schedule(i, action),
-            // The host has given what it had, or a frame has to come.
-            Action::ReceiveRequest | Action::TryReceiveRequest(_) | Action::Listen | Action::Nothing => {}
+            RadioTask::Tx { .. } | RadioTask::Rx { .. } | RadioTask::Off { .. } => self.schedule(i, task),
+            // A frame has to come; other stops the radio does at once.
+            RadioTask::Listen | RadioTask::Stop(_) => {}
         }
     }
 
     /// The frame that a station receives: its place, how much of it the radio lets arrive before it reports the header (to where the
     /// address fields end, or all of it), and when it began.
     fn receiving(&self, i: usize) -> (usize, u16, u64) {
-        let Phase::Receiving(id) = self.stations[i].phase else {
+        let Phase::Receiving(id) = self.stations[i].radio().phase else {
             panic!("a header is read only while a frame is received");
         };
         let frame = &self.air.frames[id];
@@ -218,76 +219,72 @@ impl World {
         (id, end.map_or(frame.length(), u16::from), frame.begin)
     }
 
-    fn stop(&mut self, i: usize) {
-        let outcome = match self.stations[i].phase {
-            Phase::Receiving(_) => StopResult::FrameStarted,
-            _ => StopResult::RxWindowEnded(RxResult::RxWindowEnded),
-        };
-        if outcome != StopResult::FrameStarted {
-            self.stations[i].phase = Phase::Off;
-        }
-        self.call(i, Call::Stopped(outcome));
-    }
-
     /// The radio leaves its present task when that has ended, and enters the next one after the spacing, or at its time.
-    fn schedule(&mut self, i: usize, action: Action) {
-        let (spacing, rollback) = match action {
-            Action::Tx { spacing, rollback, .. } | Action::Rx { spacing, rollback, .. } => (spacing, rollback),
-            _ => (Spacing::None, matches!(action, Action::Off { rollback: true })),
+    fn schedule(&mut self, i: usize, task: RadioTask) {
+        let (spacing, rollback) = match task {
+            RadioTask::Tx { spacing, rollback, .. } | RadioTask::Rx { spacing, rollback, .. } => (spacing, rollback),
+            _ => (Spacing::None, matches!(task, RadioTask::Off { rollback: true })),
         };
         let pause = match spacing {
             Spacing::None => 0,
             Spacing::After(Ifs::Aifs | Ifs::Sifs) => 192 * MICROSECOND,
             Spacing::After(Ifs::Lifs) => 640 * MICROSECOND,
         };
-        let earliest = match self.stations[i].phase {
+        let earliest = match self.stations[i].radio().phase {
             Phase::Off => self.now + TURNAROUND,
             Phase::Sending { end, .. } => end + pause,
             Phase::Receiving(id) if rollback && self.air.spoiled(id, self.stations[i].who) => self.air.frames[id].end,
             Phase::Receiving(id) => self.air.frames[id].end + pause,
             Phase::Listening => panic!("the driver stops listening before it goes on"),
         };
-        let time = match action {
-            Action::Tx {
+        let time = match task {
+            RadioTask::Tx {
                 start: Timestamp::Scheduled(time),
                 ..
             }
-            | Action::Rx {
+            | RadioTask::Rx {
                 start: Timestamp::Scheduled(time),
                 ..
-            } => time,
+            } => time.as_nanos(),
             _ => earliest,
         };
         assert!(earliest <= time, "the times that the hub keeps free can be kept");
-        self.put(time, Event::Due(i, action));
+        self.put(time, Event::Due(i, task));
     }
 
-    fn due(&mut self, i: usize, action: Action) {
-        if self.stations[i].action != action {
+    fn due(&mut self, i: usize, task: RadioTask) {
+        if self.stations[i].radio().task != Some(task) {
             return;
         }
-        match action {
-            Action::Stop(_) => self.stop(i),
-            Action::ReadHeader => {
+        match task {
+            RadioTask::Stop(_) => self.stop(i),
+            RadioTask::ReadHeader => {
                 let (id, arrived, _) = self.receiving(i);
                 let length = self.air.frames[id].length_with_checksum();
                 self.write(i, id, arrived);
-                self.call(i, Call::Header { arrived, length });
-                let rearm = self.stations[i].driver.wait() == Some(Wait::Entering(Transition::Rearm));
+                self.tell(i, RadioEvent::Header { arrived, length });
+                let rearm = self.stations[i].driver().wait() == Some(Wait::Entering(Transition::Rearm));
                 if rearm && self.stations[i].who == Who::HubA && arrived == HEADER {
                     self.say("hub A", "hears crane B's frame: not for us, listens on");
                 }
             }
-            Action::Tx { rollback, .. } | Action::Rx { rollback, .. } | Action::Off { rollback } => self.enter(i, rollback),
-            _ => panic!("nothing else is ever due"),
+            RadioTask::Tx { rollback, .. } | RadioTask::Rx { rollback, .. } | RadioTask::Off { rollback } => {
+                self.enter(i, task, rollback);
+            }
+            RadioTask::Listen => panic!("nothing else is ever due"),
         }
+    }
+
+    fn stop(&mut self, i: usize) {
+        let event = self.stations[i].radio_mut().0.stop();
+        self.tell(i, event);
     }
 
     /// The radio writes the bytes that have arrived into the buffer it was given.
     fn write(&mut self, i: usize, id: usize, arrived: u16) {
         let bytes = &self.air.frames[id].bytes[..usize::from(arrived)];
-        let station = &mut self.stations[i];
-        let written = station.driver.put_frame(station.listens_in, bytes);
+        let (radio, buffers) = self.stations[i].radio_mut();
+        let written = buffers.put_frame(radio.listens_in, bytes);
         assert_eq!(
             written,
             Some(arrived),
@@ -295,47 +292,47 @@ impl World {
         );
     }
 
-    fn enter(&mut self, i: usize, rollback: bool) {
+    fn enter(&mut self, i: usize, task: RadioTask, rollback: bool) {
         let result = self.leave(i);
+        let who = self.stations[i].who;
         if rollback && matches!(result, TaskResult::Rx(RxResult::CrcError { .. })) {
-            self.say(
-                self.stations[i].who.name(),
-                "the frame is damaged: no ACK, Rollback, listens on",
-            );
-            self.stations[i].phase = Phase::Listening;
-            return self.call(i, Call::Rollback);
+            self.say(who.name(), "the frame is damaged: no ACK, Rollback, listens on");
+            self.stations[i].radio_mut().0.phase = Phase::Listening;
+            return self.tell(i, RadioEvent::Rollback);
         }
-        let entry = self.now;
-        let station = &mut self.stations[i];
-        match station.action {
-            Action::Tx { buffer, length, cca, .. } => {
+        let (radio, buffers) = self.stations[i].radio_mut();
+        match task {
+            RadioTask::Tx { buffer, length, cca, .. } => {
                 // The channel is checked when the radio begins to turn to sending.
-                if cca && self.air.is_busy(entry - TURNAROUND, station.who) {
-                    station.phase = Phase::Off;
+                if cca && self.air.is_busy(self.now - TURNAROUND, who) {
+                    radio.phase = Phase::Off;
                     let cause = Cause::Task;
-                    return self.call(i, Call::Fallback { result, cause });
+                    return self.tell(i, RadioEvent::Fallback { result, cause });
                 }
-                let frame = station.driver.frame(buffer).expect("the driver names a buffer that is there");
+                let frame = buffers.frame(buffer).expect("the driver names a buffer that is there");
                 let bytes = frame[..usize::from(length)].to_vec();
-                let who = station.who;
                 let end = self.transmit(who, bytes);
-                self.stations[i].phase = Phase::Sending { begin: entry, end };
+                let begin = self.now;
+                self.stations[i].radio_mut().0.phase = Phase::Sending { begin, end };
             }
-            Action::Rx { buffer, .. } => {
-                station.listens_in = buffer;
-                station.phase = Phase::Listening;
+            RadioTask::Rx { buffer, .. } => {
+                radio.listens_in = buffer;
+                radio.phase = Phase::Listening;
             }
-            _ => station.phase = Phase::Off,
+            _ => radio.phase = Phase::Off,
         }
-        self.call(i, Call::Entered { result, entry });
+        let entry = LocalClockInstant::from_nanos(self.now);
+        self.tell(i, RadioEvent::Entered { result, entry });
     }
 
     /// What the present task came to; a received frame is then whole in its buffer.
     fn leave(&mut self, i: usize) -> TaskResult {
-        match self.stations[i].phase {
-            Phase::Sending { begin, .. } => TaskResult::Sent { time: begin },
+        match self.stations[i].radio().phase {
+            Phase::Sending { begin, .. } => TaskResult::Sent {
+                time: LocalClockInstant::from_nanos(begin),
+            },
             Phase::Receiving(id) => {
-                let time = self.air.frames[id].end;
+                let time = LocalClockInstant::from_nanos(self.air.frames[id].end);
                 let quality = self.air.quality(id, self.stations[i].who);
                 if self.air.spoiled(id, self.stations[i].who) {
                     return TaskResult::Rx(RxResult::CrcError { time, quality });
@@ -351,22 +348,21 @@ impl World {
 
     fn frame_begins(&mut self, i: usize, id: usize) {
         let station = &mut self.stations[i];
-        if station.phase != Phase::Listening || station.who == self.air.frames[id].from {
+        if station.radio().phase != Phase::Listening || station.who == self.air.frames[id].from {
             return;
         }
-        station.phase = Phase::Receiving(id);
-        match station.action {
-            Action::Listen => self.call(i, Call::FrameStart),
-            Action::Stop(_) => self.stop(i),
+        station.radio_mut().0.phase = Phase::Receiving(id);
+        match station.radio().task {
+            Some(RadioTask::Listen) => self.tell(i, RadioEvent::FrameStart),
+            Some(RadioTask::Stop(_)) => self.stop(i),
             _ => panic!("a radio listens only when it was told to listen or to stop"),
         }
     }
 
     // ---- The hosts
 
-    /// A cell drops a weighing that was sent, and keeps every other. A hub hands the mass to the plan and receives on.
-    fn answered(&mut self, i: usize, answer: Answer) {
-        let wanted = self.stations[i].close(answer.token, answer.buffer);
+    /// A cell drops a weighing that was sent, and keeps every other. A hub hands the mass to the plan.
+    fn answered(&mut self, i: usize, wanted: Wanted, answer: Answer, frame: Option<Vec<u8>>) {
         let who = self.stations[i].who;
         match wanted {
             Wanted::Send(weighing) | Wanted::SendAt(weighing, _) => self.cell_host(i, weighing, answer.response),
@@ -375,16 +371,13 @@ impl World {
                 self.say(who.name(), "ANSWER Sent: the report, for which no ACK is wanted.");
             }
             Wanted::Receive => {
-                if let Some((link, message)) = self.message(i, &answer) {
-                    self.links.push(link);
-                    match message {
-                        Message::Weighing(container, weighed) => self.hand_to_plan(&link, container, weighed),
-                        Message::Time(tenths, info) => self.tell_time(&link, tenths, info),
-                        Message::Report(charge) => self.tell_charge(&link, charge),
-                    }
-                }
-                if matches!(who, Who::HubA | Who::HubB) {
-                    self.stations[i].want(Wanted::Receive);
+                let Some(frame) = frame else { return };
+                let (link, message) = self.message(i, &answer, &frame);
+                self.links.push(link);
+                match message {
+                    Message::Weighing(container, weighed) => self.hand_to_plan(&link, container, weighed),
+                    Message::Time(tenths, info) => self.tell_time(&link, tenths, info),
+                    Message::Report(charge) => self.tell_charge(&link, charge),
                 }
             }
         }
@@ -392,17 +385,17 @@ impl World {
 
     /// How well the frame of a receive answer was heard, and what it says. The answer has the link quality that the air had for
     /// this very frame: it is looked for by the answer's time and the bytes.
-    fn message(&self, i: usize, answer: &Answer) -> Option<(Link, Message)> {
+    fn message(&self, i: usize, answer: &Answer, frame: &[u8]) -> (Link, Message) {
         let Response::Received(RxResult::Frame { time, quality, .. }) = answer.response else {
-            return None;
+            panic!("a frame comes with the answer of a received frame alone");
         };
         let to = self.stations[i].who;
-        let received = self.stations[i].driver.received(answer)?;
-        let is_this = |each: &Flying| each.end == time && each.bytes == received.frame;
+        let is_this = |each: &Flying| each.end == time.as_nanos() && each.bytes == frame;
         let id = self.air.frames.iter().position(is_this).expect("it was on the air");
         assert_eq!(quality, self.air.quality(id, to), "the quality of this very frame");
-        let from = sender_of(&received.info);
-        Some((Link { to, from, quality }, read_message(received)))
+        let info = PreliminaryFrameInfo::of(frame);
+        let from = sender_of(&info);
+        (Link { to, from, quality }, read_message(Received { frame, info }))
     }
 
     fn hand_to_plan(&mut self, link: &Link, container: String, weighed: Weighed) {
@@ -449,10 +442,7 @@ impl World {
             _ => format!("ANSWER error: channel busy. Box {container} will be sent again."),
         };
         self.say(who.name(), &words);
-        if matches!(response, Response::Sent { .. }) {
-            let station = &mut self.stations[i];
-            station.unacknowledged = station.unacknowledged.filter(|last| *last != weighing);
-        } else {
+        if !matches!(response, Response::Sent { .. }) {
             self.put(self.now + BACK_OFF, Event::Want(who, Wanted::Send(weighing)));
         }
     }

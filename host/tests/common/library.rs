@@ -72,7 +72,7 @@ impl Slices {
     }
 
     /// The four pointers, each with its length.
-    fn parts(&mut self) -> [(*mut u8, usize); 4] {
+    pub fn parts(&mut self) -> [(*mut u8, usize); 4] {
         let null_if_empty = self.null_if_empty;
         [&mut self.state, &mut self.line, &mut self.reply, &mut self.pool].map(|slice| {
             let slice = slice.get_mut();
@@ -85,7 +85,18 @@ impl Slices {
     }
 
     pub fn start(&mut self, raw: &RawStart) -> u8 {
-        let [(s, sl), (l, ll), (r, rl), (p, pl)] = self.parts();
+        let pool = self.parts()[3];
+        // SAFETY: the pointer comes from a vector of its own, with its length, or is null with length 0.
+        unsafe { self.start_on(raw, pool) }
+    }
+
+    /// Start on another pool, which stands where the pointer says.
+    ///
+    /// # Safety
+    ///
+    /// The pointer is valid for reads and writes of as many bytes as the length says, and they are nobody else's.
+    pub unsafe fn start_on(&mut self, raw: &RawStart, (p, pl): (*mut u8, usize)) -> u8 {
+        let [(s, sl), (l, ll), (r, rl), _] = self.parts();
         let RawStart {
             count,
             headroom,
@@ -101,7 +112,7 @@ impl Slices {
             spare_buffer,
             ..
         } = *raw;
-        // SAFETY: the pointers come from four separate vectors, with their lengths, or are null with length 0.
+        // SAFETY: three pointers come from separate vectors, with their lengths, or are null with length 0; the pool is the caller's.
         unsafe {
             ffi::widosha_start(
                 count,
@@ -126,48 +137,58 @@ impl Slices {
     }
 
     pub fn call(&mut self, raw: &Raw) -> u8 {
-        let [(s, sl), (l, ll), (r, rl), (p, pl)] = self.parts();
         // SAFETY: the pointers come from four separate vectors, with their lengths, or are null with length 0.
-        unsafe {
-            match *raw {
-                Raw::Arrive {
-                    token,
-                    direction,
-                    start,
-                    time,
-                    buffer,
-                    length,
-                    cca,
-                } => ffi::widosha_arrive(token, direction, start, time, buffer, length, cca, s, sl, l, ll, r, rl, p, pl),
-                Raw::Withdraw { token } => ffi::widosha_withdraw(token, s, sl, l, ll, r, rl, p, pl),
-                Raw::Request => ffi::widosha_request(s, sl, l, ll, r, rl, p, pl),
-                Raw::None => ffi::widosha_none(s, sl, l, ll, r, rl, p, pl),
-                Raw::FrameStart => ffi::widosha_frame_start(s, sl, l, ll, r, rl, p, pl),
-                Raw::OutboundSeen { start, time, cca } => ffi::widosha_outbound_seen(start, time, cca, s, sl, l, ll, r, rl, p, pl),
-                Raw::Stopped {
-                    outcome,
-                    length,
-                    time,
-                    quality,
-                } => ffi::widosha_stopped(outcome, length, time, quality, s, sl, l, ll, r, rl, p, pl),
-                Raw::Header { arrived, length } => ffi::widosha_header(arrived, length, s, sl, l, ll, r, rl, p, pl),
-                Raw::Entered {
-                    result,
-                    length,
-                    time,
-                    entry,
-                    quality,
-                } => ffi::widosha_entered(result, length, time, entry, quality, s, sl, l, ll, r, rl, p, pl),
-                Raw::Fallback {
-                    result,
-                    length,
-                    time,
-                    cause,
-                    cause_time,
-                    quality,
-                } => ffi::widosha_fallback(result, length, time, cause, cause_time, quality, s, sl, l, ll, r, rl, p, pl),
-                Raw::Rollback => ffi::widosha_rollback(s, sl, l, ll, r, rl, p, pl),
-            }
+        unsafe { call_on(self.parts(), raw) }
+    }
+}
+
+/// The call on four slices, each a pointer with its length.
+///
+/// # Safety
+///
+/// As of the functions themselves.
+pub unsafe fn call_on(slices: [(*mut u8, usize); 4], raw: &Raw) -> u8 {
+    let [(s, sl), (l, ll), (r, rl), (p, pl)] = slices;
+    // SAFETY: what the caller owes.
+    unsafe {
+        match *raw {
+            Raw::Arrive {
+                token,
+                direction,
+                start,
+                time,
+                buffer,
+                length,
+                cca,
+            } => ffi::widosha_arrive(token, direction, start, time, buffer, length, cca, s, sl, l, ll, r, rl, p, pl),
+            Raw::Withdraw { token } => ffi::widosha_withdraw(token, s, sl, l, ll, r, rl, p, pl),
+            Raw::Request => ffi::widosha_request(s, sl, l, ll, r, rl, p, pl),
+            Raw::None => ffi::widosha_none(s, sl, l, ll, r, rl, p, pl),
+            Raw::FrameStart => ffi::widosha_frame_start(s, sl, l, ll, r, rl, p, pl),
+            Raw::OutboundSeen { start, time, cca } => ffi::widosha_outbound_seen(start, time, cca, s, sl, l, ll, r, rl, p, pl),
+            Raw::Stopped {
+                outcome,
+                length,
+                time,
+                quality,
+            } => ffi::widosha_stopped(outcome, length, time, quality, s, sl, l, ll, r, rl, p, pl),
+            Raw::Header { arrived, length } => ffi::widosha_header(arrived, length, s, sl, l, ll, r, rl, p, pl),
+            Raw::Entered {
+                result,
+                length,
+                time,
+                entry,
+                quality,
+            } => ffi::widosha_entered(result, length, time, entry, quality, s, sl, l, ll, r, rl, p, pl),
+            Raw::Fallback {
+                result,
+                length,
+                time,
+                cause,
+                cause_time,
+                quality,
+            } => ffi::widosha_fallback(result, length, time, cause, cause_time, quality, s, sl, l, ll, r, rl, p, pl),
+            Raw::Rollback => ffi::widosha_rollback(s, sl, l, ll, r, rl, p, pl),
         }
     }
 }

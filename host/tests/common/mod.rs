@@ -1,15 +1,19 @@
-//! What the tests share: random numbers, calls into the library between guard bytes, the comparison with the model, the choice of
-//! calls, recorded runs, calls for runs that are told outright.
+//! What the tests share: random numbers, calls into the library between guard bytes, the comparison with the model and with
+//! the safe types, the choice of calls, recorded runs, calls for runs that are told outright.
 #![allow(dead_code)]
 
 pub mod choose;
 pub mod compare;
+pub mod crossing;
 pub mod frames;
 pub mod library;
 pub mod met;
+#[cfg(target_os = "linux")]
+pub mod pages;
 pub mod random;
 pub mod reached;
 pub mod run;
+pub mod safe;
 pub mod scenes;
 
 use random::Rng;

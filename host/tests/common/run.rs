@@ -2,6 +2,7 @@
 use super::choose::{self, Now, Poke};
 use super::compare::Pair;
 use super::random::Rng;
+use super::safe::{After, Safe};
 use crate::model::book::Book;
 use crate::model::bytes::{codes, read_line, read_state, LINE, REPLY, STATE};
 use crate::model::calls::{Raw, RawStart};
@@ -34,6 +35,26 @@ pub struct Run {
     pub steps: Vec<Step>,
     /// State and line as the model reads them from the library's slices.
     pub read: (State, Line),
+    pub beside: Beside,
+}
+
+/// The safe types beside the C functions. They are lent a pool, so a copy of a run goes on without them.
+#[derive(Default)]
+pub struct Beside(pub Option<Safe>);
+
+impl Clone for Beside {
+    fn clone(&self) -> Beside {
+        Beside(None)
+    }
+}
+
+/// The buffers that are held, as state and line have them, sorted.
+pub fn held(state: &State, line: &Line) -> Vec<u8> {
+    let mut held: Vec<u8> = state.wait.open().iter().flatten().map(|open| open.1).collect();
+    held.extend([state.settings.ack, state.settings.spare]);
+    held.extend(line.0.iter().map(|request| request.buffer()));
+    held.sort_unstable();
+    held
 }
 
 /// State and line as the model reads them.
@@ -61,6 +82,7 @@ impl Run {
         let mut pair = Pair::on(&slices[0], &slices[1], &slices[2]);
         let returned = pair.start(&opening.start)?;
         let book = Book::new(&opening.start);
+        let beside = Beside(Safe::start(&opening.start, &slices[2], returned, pair.reply())?);
         match returned {
             0 => Ok(Run {
                 opening,
@@ -68,6 +90,7 @@ impl Run {
                 pair,
                 book,
                 steps: Vec::new(),
+                beside,
             }),
             number => Err(format!("start was refused: {number}")),
         }
@@ -94,6 +117,9 @@ impl Run {
         match step {
             Step::Poke((at, bytes)) => {
                 self.pair.poke(at, &bytes);
+                if let Some(safe) = &mut self.beside.0 {
+                    safe.poke(at, &bytes);
+                }
                 Ok(0)
             }
             Step::Call(raw) => self.call(&raw),
@@ -119,9 +145,27 @@ impl Run {
             self.book.accept(raw, pool, self.pair.reply())?;
             self.read = read(&self.pair)?;
             self.same_as_book()?;
+        }
+        self.same_by_safe_types(raw, returned)?;
+        if returned == 0 {
             self.goes_on()?;
         }
         Ok(returned)
+    }
+
+    /// The same call by the safe types, if they can say it, gives and leaves the same.
+    fn same_by_safe_types(&mut self, raw: &Raw, returned: u8) -> Result<(), String> {
+        let Some(safe) = &mut self.beside.0 else { return Ok(()) };
+        let after = After {
+            returned,
+            state: self.pair.state(),
+            line: self.pair.line(),
+            reply: self.pair.reply(),
+            pool: self.pair.pool(),
+            read: &self.read,
+            held: &self.book.says().2,
+        };
+        safe.call(raw, &after)
     }
 
     /// No dead end: the call that the book names is accepted. A refused call changes nothing, so it is accepted after that too.
@@ -139,11 +183,8 @@ impl Run {
         debug_assert_eq!(codes(&state.wait), self.codes());
         let open = state.wait.open();
         let mut tokens: Vec<u32> = open.iter().flatten().map(|open| open.0).collect();
-        let mut held: Vec<u8> = open.iter().flatten().map(|open| open.1).collect();
-        held.extend([state.settings.ack, state.settings.spare]);
-        held.extend(line.0.iter().map(|request| request.buffer()));
         tokens.sort_unstable();
-        held.sort_unstable();
+        let held = held(state, line);
         let (waiting, unanswered, book_held) = self.book.says();
         match (&line.0, &tokens, &held) == (&waiting, &unanswered, &book_held) {
             true => Ok(()),

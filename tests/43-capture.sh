@@ -3,23 +3,13 @@
 # count, the exit status; and what it says of captures that it cannot read. A second reader in Python agrees with it on damaged
 # captures.
 cd "$(dirname "${BASH_SOURCE[0]}")/.." || exit 2
-set -u
-if ! command -v cargo >/dev/null; then
-    echo "there is no cargo"
-    exit 77
-fi
+source tests/common.sh
+needs cargo
 export CARGO_TARGET_DIR=$PWD/target/host
 cargo build --quiet --manifest-path host/Cargo.toml --offline --locked --release --example check_capture || exit 1
 program=$CARGO_TARGET_DIR/release/examples/check_capture
 small=host/examples/check_capture
-out=$(mktemp -d) || exit 1
-trap 'rm -rf "$out"' EXIT
-failed=0
-
-fail() {
-    echo "$1"
-    failed=1
-}
+own_folder
 
 # checks NAME STATUS ARGUMENT..: the program ends with that status. What it prints is then in $out/lines and $out/told.
 checks() {

@@ -2,21 +2,9 @@
 # What README.md and the other documents show of ./run is what it prints; the two commands are there; and ./run says what is missing,
 # all together, and which crate of how many is being proved.
 cd "$(dirname "${BASH_SOURCE[0]}")/.." || exit 2
-set -u
-for each in rt cargo python3; do
-    if ! command -v "$each" >/dev/null; then
-        echo "there is no $each"
-        exit 77
-    fi
-done
-out=$(mktemp -d) || exit 1
-trap 'rm -rf "$out"' EXIT
-failed=0
-
-fail() {
-    echo "$1"
-    failed=1
-}
+source tests/common.sh
+needs rt cargo python3
+own_folder
 
 for each in ./run ./test; do
     grep -q "^    $each  " README.md && [ -x "$each" ] || fail "$each is not as README.md has it"

@@ -2,23 +2,11 @@
 # ./run --pcap FILE: the capture is read back by an independent reader, which compares it with the story that was printed, and by
 # check_capture; Wireshark's tools read it where they are. And what ./run says to a wrong call, or to a file that cannot be written.
 cd "$(dirname "${BASH_SOURCE[0]}")/.." || exit 2
-set -u
-for each in rt cargo python3; do
-    if ! command -v "$each" >/dev/null; then
-        echo "there is no $each"
-        exit 77
-    fi
-done
+source tests/common.sh
+needs rt cargo python3
 run=$PWD/run
 reader=$PWD/tests/pcap/read_back.py
-out=$(mktemp -d) || exit 1
-trap 'rm -rf "$out"' EXIT
-failed=0
-
-fail() {
-    echo "$1"
-    failed=1
-}
+own_folder
 
 # From another folder, and as a first run, which builds and says so; the later ones have nothing to build.
 rm -f target/run.sum

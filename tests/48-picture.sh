@@ -2,21 +2,9 @@
 # The pictures are what their scripts make: docs/two-cranes.svg of what the demonstration prints now, docs/waits.svg of its own text.
 # Both are well-formed XML, nothing of theirs stands outside, and the first has each of its colours in a light and a dark theme.
 cd "$(dirname "${BASH_SOURCE[0]}")/.." || exit 2
-set -u
-for each in rt cargo python3; do
-    if ! command -v "$each" >/dev/null; then
-        echo "there is no $each"
-        exit 77
-    fi
-done
-out=$(mktemp -d) || exit 1
-trap 'rm -rf "$out"' EXIT
-failed=0
-
-fail() {
-    echo "$1"
-    failed=1
-}
+source tests/common.sh
+needs rt cargo python3
+own_folder
 
 ./run -v >"$out/calls" 2>"$out/told" || fail "./run -v: $(cat "$out/told")"
 python3 -B docs/two_cranes.py <"$out/calls" >"$out/two-cranes.svg" || fail "docs/two_cranes.py failed"

@@ -6,22 +6,6 @@ use crate::model::engine::State;
 use crate::model::export::{self, Slices};
 use crate::model::line::Line;
 
-/// The functions of driver_c: start, and the others in the order of `Raw::kind`.
-pub const NAMES: [&str; 12] = [
-    "start",
-    "arrive",
-    "withdraw",
-    "request",
-    "none",
-    "frame_start",
-    "outbound_seen",
-    "stopped",
-    "header",
-    "entered",
-    "fallback",
-    "rollback",
-];
-
 #[derive(Clone, PartialEq, Eq)]
 pub struct Memory {
     state: [u8; STATE_LENGTH],

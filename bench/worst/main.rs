@@ -12,15 +12,18 @@ mod inputs;
 mod library;
 #[path = "../../host/tests/model/mod.rs"]
 mod model;
+#[path = "../names.rs"]
+mod names;
 #[path = "../steps.rs"]
 mod steps;
 
 use inputs::{frames, kinds, line, name, other_settings, settings, starts, waits, FRAMES, LINES};
-use library::{Memory, NAMES};
+use library::Memory;
 use model::calls::Raw;
 use model::engine::{State, Wait};
 use model::header::Control;
 use model::settings::Settings;
+use names::NAMES;
 use std::collections::BTreeMap;
 
 /// The greatest that was met.

@@ -12,30 +12,19 @@
 //!                              of the same call with a byte of state or line spoilt: where the ways part, that part had been read
 //!     bench_calls --facts N    reads the facts of five frames N times, and once each time into a slice of a wrong length
 
+#[path = "../../bench/names.rs"]
+mod names;
 #[path = "../../bench/steps.rs"]
 #[allow(dead_code)]
 mod steps;
 
+use names::NAMES;
 use std::fmt::Write;
 use std::time::Instant;
 use widosha::ffi::*;
 
 const COUNT: u8 = 8;
 const HEADROOM: usize = 2;
-const NAMES: [&str; 12] = [
-    "start",
-    "arrive",
-    "withdraw",
-    "request",
-    "none",
-    "frame_start",
-    "outbound_seen",
-    "stopped",
-    "header",
-    "entered",
-    "fallback",
-    "rollback",
-];
 
 /// The functions, in the order of their names.
 const ENTRIES: [*const (); 12] = [

@@ -24,7 +24,7 @@ use Rattle.tasks.specs.declared.Action.{Action}
 use Rattle.tasks.specs.declared.Call.{Call}
 use Rattle.tasks.specs.declared.State.{State}
 use Rattle.engine.specs.Step.{Outcome, outcome_of}
-use Rattle.engine.specs.Step.{step_of, step_pool, start_of, start_pool}
+use Rattle.engine.specs.Step.{move_of, step_of, step_pool, start_of, start_pool}
 use Rattle.engine.specs.Refusals.{InOrder, RefusedUnchanged, Unchanged, no_reply}
 use Rattle.engine.specs.Actions.{AcceptedActs}
 use Rattle.engine.specs.Book.{is_idle}
@@ -32,7 +32,7 @@ use Rattle.engine.proofs.Actions.{accepted_acts}
 use Rattle.engine.specs.AckTurns.{EveryAckTurnIsDue}
 use Rattle.engine.proofs.AckTurns.{every_ack_turn_is_due}
 use Rattle.engine.specs.Reasons.{EveryAnswerHasItsReason, EveryQualityIsTold}
-use Rattle.driver.specs.Promises.{Stepped, Started}
+use Rattle.driver.specs.Promises.{Stepped, Started, RefusedAgain}
 use Rattle.engine.proofs.History.{history}
 use Rattle.engine.proofs.Refusals.{in_order, refused_unchanged}
 use Rattle.engine.proofs.Reasons.{every_answer_has_its_reason, every_quality_is_told}
@@ -101,3 +101,13 @@ module _ (set : Settings) (pool : List ℕ) where
       → Started set pool (outcome_of (refused_of (idle_of set) (refusal_number refusal))) pool
   unfolding start_of guarded_of start_pool
   start_refused refusal e = start_promises set pool _ _ (rw (sym e, not_zero refusal) refl) (rw (sym e, not_zero refusal) refl)
+
+-- ---- On the idle state the settings that refused a start refuse again.
+pub refused_again : (set : Settings) → RefusedAgain set
+unfolding RefusedAgain step_of move_of guarded_of
+refused_again set pool c h = go (eqb (settings_refusal set (length pool)) 0) refl
+  where
+    go : (t : Bool) → eqb (settings_refusal set (length pool)) 0 ≡ t
+        → (step_of (idle_of set) pool c).refusal ≡ settings_refusal set (length pool)
+    go true e = absurd (h (eqb-true _ _ e))
+    go false e = rw e

@@ -39,6 +39,12 @@ pub record Stepped (s : State) (pool : List ℕ) (c : Call) (r : Outcome) (writt
 abbrev pub idle_of : Settings → State
 idle_of set = record { set = set; wait = Wait.Asking Asked.Idle }
 
+-- on it the same pool is refused again, whatever the call, by the number that the start was refused by
+unfoldable pub RefusedAgain : Settings → Type 0
+RefusedAgain set =
+    (pool : List ℕ) (c : Call) → (settings_refusal set (length pool) ≡ 0 → ⊥)
+    → (step_of (idle_of set) pool c).refusal ≡ settings_refusal set (length pool)
+
 -- a start
 pub record Started (set : Settings) (pool : List ℕ) (r : Outcome) (written : List ℕ) : Type 0 where
   pub returns : r ≡ start_of set pool

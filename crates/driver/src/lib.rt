@@ -5,12 +5,12 @@
 ghost use Rattle.std.specs.Prelude.{◌≡◌};
 ghost use Rattle.moves.specs.Move.{told};
 ghost use Rattle.engine.specs.Step.{wait_move, move_of, outcome_told, written_by};
-ghost use Rattle.driver.specs.Promises.{Stepped, Started, idle_of};
+ghost use Rattle.driver.specs.Promises.{Stepped, Started, RefusedAgain, idle_of};
 
 use moves::Accepted;
 use radio_frame::Settings;
 use refusals::Refusal;
-use tasks::{Answers, Call, Reply, State, Wait};
+use tasks::{Answers, Asked, Call, Reply, State, Wait};
 
 // What the wait does with the call.
 #[tactic(auto, unfolding(engine::specs::Step::wait_move))]
@@ -53,6 +53,18 @@ pub fn step(s: State, pool: &mut [u8], c: Call) -> Result<(State, Reply), Refusa
     let m = checked_move(s, pool, c)?;
     write_number(s.set, pool, m.number);
     Ok((m.state, m.reply))
+}
+
+// The idle state of settings: an accepted start returns it. A refused one returns no state; on this one the same pool is refused again.
+#[tactic(auto, using(crate::proofs::Promises::refused_again))]
+pub fn idle(set: Settings) -> State
+    ensures value { result ≡ idle_of set }
+    ensures again { RefusedAgain set }
+{
+    State {
+        set,
+        wait: Wait::Asking(Asked::Idle),
+    }
 }
 
 // The acknowledgement in its buffer, and the idle state of the settings, unless they are refused; on every list of calls that

@@ -69,17 +69,17 @@ impl Session {
 
     // Writes up to 16 bytes, and nothing past the pool's end.
     fn write(&mut self, r: &Record) {
-        let d = r.d.to_be_bytes();
-        let e = r.e.to_be_bytes();
-        let bytes = d.iter().chain(&e).take(r.b.into());
-        for (place, byte) in self.pool.iter_mut().skip(r.a as usize).zip(bytes) {
+        let d = r.d().to_be_bytes();
+        let e = r.e().to_be_bytes();
+        let bytes = d.iter().chain(&e).take(r.b().into());
+        for (place, byte) in self.pool.iter_mut().skip(r.a() as usize).zip(bytes) {
             *place = *byte;
         }
     }
 
     // What a start or a call came to; none of another record.
     fn outcome(&mut self, r: &Record) -> Option<Result<Reply, Refusal>> {
-        match r.kind {
+        match r.kind() {
             's' => Some(self.start(r)),
             _ => Some(self.call(r.call()?)),
         }
@@ -87,26 +87,26 @@ impl Session {
 
     fn record(&mut self, rt: &impl Print, r: &Record) -> io::Result<()> {
         if let Some(o) = self.outcome(r) {
-            return replies::print(rt, r.kind, o);
+            return replies::print(rt, r.kind(), o);
         }
-        match r.kind {
+        match r.kind() {
             'l' => self.length = r.pool_length(),
             'w' => self.write(r),
             'z' => self.pool = [0; POOL],
             'd' => {
-                let bytes = util::bytes_at::<48>(&self.pool, r.a as usize);
-                replies::dump(rt, r.kind, r.a, &bytes)?;
+                let bytes = util::bytes_at::<48>(&self.pool, r.a() as usize);
+                replies::dump(rt, r.kind(), r.a(), &bytes)?;
             }
             'L' => {
                 let line = line_bytes::encode(&Line::from_run(&self.run));
-                let bytes = util::bytes_at::<48>(&line, r.a as usize);
-                replies::dump(rt, r.kind, r.a, &bytes)?;
+                let bytes = util::bytes_at::<48>(&line, r.a() as usize);
+                replies::dump(rt, r.kind(), r.a(), &bytes)?;
             }
             'a' => {
                 let set = self.state.set;
                 let place = radio_frame::frame_start(set, set.ack_buffer);
                 let bytes = util::bytes_at::<3>(&self.pool, place as usize);
-                replies::dump(rt, r.kind, place, &bytes)?;
+                replies::dump(rt, r.kind(), place, &bytes)?;
             }
             _ => println!(rt; "unknown record")?,
         }

@@ -23,37 +23,48 @@ pub struct RequestRecord {
 }
 
 // The requests that wait, in the order of their arrival: an array and how many of it count, as the memory is fixed and there is no heap.
-// What stands behind them means nothing.
-#[derive(Drop)]
+// Behind them stands UNUSED, so that a line of the same requests is the same line, and may be copied.
+#[derive(Clone, Copy)]
 pub struct Line {
     requests: [Request; DRIVER_CHANNEL_CAPACITY],
     len: usize,
 }
 
+// What stands at a place where no request waits.
+const UNUSED: Request = Request {
+    token: 0,
+    start: Timestamp::BestEffort,
+    buffer: 0,
+    task: Task::Rx,
+};
+
 // Clauses see the list of the requests that wait.
 impl Model for Line {
-    ghost use Rattle.std.specs.Prelude.{List, ◌≤◌, take};
+    ghost use Rattle.std.specs.Prelude.{List, ◌-◌, ◌≡◌, ◌≤◌, length, take, drop};
+    ghost use Rattle.std.proofs.Common.{arith, take-append-drop, length-take-le};
     ghost use Rattle.tasks.specs.declared.Request.{Request};
+    ghost use Rattle.waiting_line.specs.Unused.{unused, filled};
 
     ghost Value = { List Request };
 
     ghost view = { λ l. take l.len l.requests };
 
-    ghost invariant = { λ l. l.len ≤ 4 };
+    ghost invariant = { λ l. (l.len ≤ 4) × (length l.requests ≡ 4) × (drop l.len l.requests ≡ unused (4 - l.len)) };
+
+    ghost inverse = { λ qs. record { requests = filled qs; len = length qs } };
+
+    ghost inverse_ok = { λ l h i.
+        let n : length (take l.len l.requests) ≡ l.len = length-take-le l.len l.requests (omega (arith, h.0, h.1)) in
+        let xs : filled (take l.len l.requests) ≡ l.requests = rw (n, ← h.2) (take-append-drop l.len l.requests) in
+        record { requests = xs i; len = n i } };
 }
 
 impl Line {
     pub fn new() -> Line
         ensures { result ≡ [] }
     {
-        let unused = Request {
-            token: 0,
-            start: Timestamp::BestEffort,
-            buffer: 0,
-            task: Task::Rx,
-        };
         Line {
-            requests: [unused; DRIVER_CHANNEL_CAPACITY],
+            requests: [UNUSED; DRIVER_CHANNEL_CAPACITY],
             len: 0,
         }
     }
@@ -62,7 +73,7 @@ impl Line {
     pub fn clear(&mut self)
         ensures { self.new ≡ [] }
     {
-        self.len = 0;
+        *self = Line::new();
     }
 
     pub fn requests(&self) -> &[Request]
@@ -116,6 +127,7 @@ impl Line {
         let q = self.requests()[i];
         self.requests[i..self.len].rotate_left(1);
         self.len -= 1;
+        self.requests[self.len] = UNUSED;
         q
     }
 

@@ -15,10 +15,10 @@ use Rattle.fcs.specs.Table.{fcs_table, table_step}
 use Rattle.fcs.proofs.ByTable.{every_entry, from_cons, from_append, from_fits, from_none, table_byte}
 
 -- the checksum of one byte, or of none
-pub one_byte : (odd : List ℕ) → 0 < length odd → length odd < 2 → get_or odd 0 0 < 256 → fcs_of odd ≡ get_or fcs_table (get_or odd 0 0) 0
-one_byte [] some h f = absurd (omega arith)
-one_byte (b ∷ c ∷ odd) some h f = absurd (omega arith)
-one_byte (b ∷ []) some h f = sym (every_entry.1 b f)
+pub one_byte : (odd : List ℕ) → 0 < length odd → length odd < 2 → fcs_of odd ≡ fcs_of (get_or odd 0 0 ∷ [])
+one_byte [] some h = absurd (omega arith)
+one_byte (b ∷ c ∷ odd) some h = absurd (omega arith)
+one_byte (b ∷ []) some h = refl
 
 pub no_byte : (odd : List ℕ) → length odd ≡ 0 → fcs_of odd ≡ 0
 unfolding fcs_of fcs_from xor

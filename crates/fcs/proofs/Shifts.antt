@@ -13,10 +13,10 @@ use lib.ListN.{length, get_or}
 use lib.Pow.{pow_pos}
 use Rattle.std.specs.Int.{w8, w16, from_le_bytes}
 use Rattle.std.proofs.Common.{Fits}
-use Rattle.fcs.specs.Fcs.{fcs_from}
+use Rattle.fcs.specs.Fcs.{fcs_from, fcs_of}
 use Rattle.fcs.specs.Table.{fcs_table}
 use Rattle.fcs.proofs.Bits.{xor_exchange}
-use Rattle.fcs.proofs.ByTable.{at, both_left, both_right}
+use Rattle.fcs.proofs.ByTable.{every_entry, at, both_left, both_right}
 use Rattle.fcs.proofs.Pairs.{two_bytes}
 
 -- ---- What goes through an exclusive or
@@ -134,6 +134,22 @@ of_two start b c word f g h low high =
 pub two_zeros : (word : ℕ) → word < 2 ^ 16 → fcs_from word (0 ∷ 0 ∷ []) ≡ left (quotient word)
 unfolding shifts
 two_zeros word f = sym (of_two word 0 0 word f (omega arith) (omega arith) (sym (xor_zero_r (word % 256))) (sym (xor_zero_r (word / 256))))
+
+-- ---- One byte by itself
+
+abbrev pub byte_quotient : ℕ → ℕ
+byte_quotient b = bit_xor b (b * 2 ^ 4 % 2 ^ 8)
+
+abbrev pub byte_shifts : ℕ → ℕ
+byte_shifts b = bit_xor (bit_xor (byte_quotient b * 2 ^ 8 % 2 ^ 16) (byte_quotient b * 2 ^ 3 % 2 ^ 16)) (byte_quotient b / 2 ^ 4)
+
+right_alone : ℕ → ℕ → Bool
+right_alone place entry = eqb (byte_shifts place) entry
+
+-- the shifts of a byte give its entry, by one test over all
+pub byte_alone : (b : ℕ) → b < 256 → fcs_of (b ∷ []) ≡ byte_shifts b
+unfolding fcs_table right_alone
+byte_alone b h = sym (every_entry.1 b h) ∙ sym (eqb→eq (byte_shifts b) (entry_at b) (at right_alone fcs_table tt b h))
 
 -- two other bytes go into the register
 pub word_step : (start : ℕ) (pair : List ℕ) → start < 2 ^ 16 → length pair ≡ 2 → ((i : ℕ) → Fits w8 (get_or pair i 0))
